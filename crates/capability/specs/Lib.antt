@@ -1,0 +1,3 @@
+pub mod Rights
+pub mod Refusals
+pub mod Formats
