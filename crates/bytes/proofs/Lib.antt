@@ -1,0 +1,3 @@
+pub mod Weights
+pub mod Renewed
+pub mod Stored

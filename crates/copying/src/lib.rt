@@ -1,0 +1,1 @@
+//! A copy of bytes over any store.

@@ -1,0 +1,5 @@
+pub mod Least
+pub mod Blocks
+pub mod Memory
+pub mod Step
+pub mod Guarantee
