@@ -40,25 +40,25 @@ pub renewed-here : (new : ℕ → Cell) (cells : List Cell) (low j : ℕ) → ce
 renewed-here new cells low j = ⊎-elim
     (λ (l : j < length cells). getD-listed (length cells) _ j (0, false) l ∙ cond-false _ _ _ (outside low j j (λ p. let b = p .1 in omega arith)))
     (λ (l : length cells ≤ j).
-        let e = length-listed (length cells) (λ i. cond (leb low i && ltb i j) (new i) (cell cells i)) in
-        let m : length (renewed new cells low j) ≤ j = omega arith in
-        getD-past (renewed new cells low j) j (0, false) m ∙ sym (getD-past cells j (0, false) l))
+    let e = length-listed (length cells) (λ i. cond (leb low i && ltb i j) (new i) (cell cells i)) in
+    let m : length (renewed new cells low j) ≤ j = omega arith in
+    getD-past (renewed new cells low j) j (0, false) m ∙ sym (getD-past cells j (0, false) l))
     (cases-lt j (length cells))
 
 pub renewed-more : (new : ℕ → Cell) (cells : List Cell) (low j : ℕ) (w : Cell) → low ≤ j → w ≡ new j
     → set (renewed new cells low j) j w ≡ renewed new cells low (j + 1)
 renewed-more new cells low j w lo e =
     sym (set-listed (length cells) (λ i. cond (leb low i && ltb i j) (new i) (cell cells i)) (λ i. cond (leb low i && ltb i (j + 1)) (new i) (cell cells i)) j w
-      (cond-true _ _ _ (and-from _ _ (le-leb low j lo) (lt-ltb j (j + 1) (omega arith))) ∙ sym e)
-      (λ k l ne. ap (λ (b : Bool). cond b (new k) (cell cells k))
-        (same-test _ _
-          (λ t. let p = inside low (j + 1) k t in let a = p .0 in let b = p .1 in and-from _ _ (le-leb low k a) (lt-ltb k j (omega arith)))
-          (λ t. let p = inside low j k t in let a = p .0 in let b = p .1 in and-from _ _ (le-leb low k a) (lt-ltb k (j + 1) (omega arith))))))
+    (cond-true _ _ _ (and-from _ _ (le-leb low j lo) (lt-ltb j (j + 1) (omega arith))) ∙ sym e)
+    (λ k l ne. ap (λ (b : Bool). cond b (new k) (cell cells k))
+    (same-test _ _
+    (λ t. let p = inside low (j + 1) k t in let a = p .0 in let b = p .1 in and-from _ _ (le-leb low k a) (lt-ltb k j (omega arith)))
+    (λ t. let p = inside low j k t in let a = p .0 in let b = p .1 in and-from _ _ (le-leb low k a) (lt-ltb k (j + 1) (omega arith))))))
 
 touched-index : (f a n i : ℕ) → 0 < n → touched a n (f + i) ≡ (leb (a / 8 - f) i && ltb i ((a + n + 7) / 8 - f))
 touched-index f a n i z = same-test _ _
     (λ t. let h = ltb-true (max a (8 * (f + i))) (min (a + n) (8 * (f + i) + 8)) t in
-        and-from _ _ (le-leb (a / 8 - f) i (omega arith)) (lt-ltb i ((a + n + 7) / 8 - f) (omega arith)))
+    and-from _ _ (le-leb (a / 8 - f) i (omega arith)) (lt-ltb i ((a + n + 7) / 8 - f) (omega arith)))
     (λ t. let p = inside (a / 8 - f) ((a + n + 7) / 8 - f) i t in let x = p .0 in let y = p .1 in lt-ltb (max a (8 * (f + i))) (min (a + n) (8 * (f + i) + 8)) (omega arith))
 
 -- the granules that n bytes touch are in a row
@@ -71,17 +71,17 @@ renewed-touched new f cells a n low high z p q =
 pub renewed-clear : (cells : List Cell) → renewed (λ i. (0, false)) cells 0 (length cells) ≡ replicate (length cells) (0, false)
 renewed-clear cells =
     ext-getD (0, false) _ _ (length-listed (length cells) (λ i. cond (leb 0 i && ltb i (length cells)) (0, false) (cell cells i)) ∙ sym (length-replicate (length cells) (0, false)))
-      (λ k l.
-        let e = length-listed (length cells) (λ i. cond (leb 0 i && ltb i (length cells)) (0, false) (cell cells i)) in
-        let m : k < length cells = omega arith in
-        getD-listed (length cells) _ k (0, false) m ∙ cond-true _ _ _ (and-from _ _ (le-leb 0 k (omega arith)) (lt-ltb _ _ m))
-        ∙ sym (getD-replicate (length cells) k (0, false) (0, false) m))
+    (λ k l.
+    let e = length-listed (length cells) (λ i. cond (leb 0 i && ltb i (length cells)) (0, false) (cell cells i)) in
+    let m : k < length cells = omega arith in
+    getD-listed (length cells) _ k (0, false) m ∙ cond-true _ _ _ (and-from _ _ (le-leb 0 k (omega arith)) (lt-ltb _ _ m))
+    ∙ sym (getD-replicate (length cells) k (0, false) (0, false) m))
 
 -- the word of a granule after a store, from what it was
 pub word-here : (f : ℕ) (cells : List Cell) (a n v i old : ℕ) → old ≡ cell cells i .0
     → number (written (λ y. byte-of old (y % 8)) a n v) (8 * (f + i)) 8 ≡ number (written (byte f cells) a n v) (8 * (f + i)) 8
 word-here f cells a n v i old o =
     number-same (written (λ y. byte-of old (y % 8)) a n v) (written (byte f cells) a n v) (8 * (f + i)) 8
-      (λ k l. let q : (8 * (f + i) + k) / 8 - f ≡ i = omega arith in
-        ap (λ (b : ℕ). cond (among a n (8 * (f + i) + k)) (byte-of v (8 * (f + i) + k - a)) b)
-          (ap (λ (w : ℕ). byte-of w ((8 * (f + i) + k) % 8)) (o ∙ ap (λ (j : ℕ). cell cells j .0) (sym q))))
+    (λ k l. let q : (8 * (f + i) + k) / 8 - f ≡ i = omega arith in
+    ap (λ (b : ℕ). cond (among a n (8 * (f + i) + k)) (byte-of v (8 * (f + i) + k - a)) b)
+    (ap (λ (w : ℕ). byte-of w ((8 * (f + i) + k) % 8)) (o ∙ ap (λ (j : ℕ). cell cells j .0) (sym q))))

@@ -18,11 +18,11 @@ hit : (n a : ℕ) (test : ℕ → Bool) (x : ℕ) → a ≤ x → x < a + n → 
 hit zero a test x lo hi t none = absurd (omega arith)
 hit (suc n) a test x lo hi t none =
     ⊎-elim
-      (λ (e : a ≡ x). let P : ℕ → Type 0 = λ z. test z ≡ true in
-          cond-true (test a) (Some a) (first-of n (suc a) test) (subst P (sym e) t) ∙ ap Some e)
-      (λ ne. cond-false (test a) (Some a) (first-of n (suc a) test) (fails (test a) (none a (omega arith) (omega arith)))
-          ∙ hit n (suc a) test x (omega arith) (omega arith) t (λ y l h. none y (omega arith) h))
-      (cases-eq a x)
+    (λ (e : a ≡ x). let P : ℕ → Type 0 = λ z. test z ≡ true in
+    cond-true (test a) (Some a) (first-of n (suc a) test) (subst P (sym e) t) ∙ ap Some e)
+    (λ ne. cond-false (test a) (Some a) (first-of n (suc a) test) (fails (test a) (none a (omega arith) (omega arith)))
+    ∙ hit n (suc a) test x (omega arith) (omega arith) t (λ y l h. none y (omega arith) h))
+    (cases-eq a x)
 
 miss : (n a : ℕ) (test : ℕ → Bool) → ((y : ℕ) → a ≤ y → y < a + n → test y ≡ true → ⊥) → first-of n a test ≡ None
 miss zero a test none = refl
@@ -42,13 +42,16 @@ From n a test None = (y : ℕ) → a ≤ y → y < a + n → test y ≡ true →
 
 one-more : (b : Bool) (n a : ℕ) (test : ℕ → Bool) (r : Option ℕ) → test a ≡ b → From n (suc a) test r → From (suc n) a test (cond b (Some a) r)
 one-more true n a test r e h = (omega arith, omega arith, e, λ y lo hi t. omega arith)
-one-more false n a test (Some x) e h =
-    (omega (arith, h .0), omega (arith, h .1), h .2,
-     λ y lo hi t. ⊎-elim (λ (q : y ≡ a). both-ways (test a) e (let P : ℕ → Type 0 = λ z. test z ≡ true in subst P q t))
-         (λ ne. h .3 y (omega arith) hi t) (cases-eq y a))
+one-more false n a test (Some x) e h = (
+  omega (arith, h .0),
+  omega (arith, h .1),
+  h .2,
+  λ y lo hi t. ⊎-elim (λ (q : y ≡ a). both-ways (test a) e (let P : ℕ → Type 0 = λ z. test z ≡ true in subst P q t))
+      (λ ne. h .3 y (omega arith) hi t) (cases-eq y a),
+)
 one-more false n a test None e h =
     λ y lo hi t. ⊎-elim (λ (q : y ≡ a). both-ways (test a) e (let P : ℕ → Type 0 = λ z. test z ≡ true in subst P q t))
-        (λ ne. h y (omega arith) (omega arith) t) (cases-eq y a)
+    (λ ne. h y (omega arith) (omega arith) t) (cases-eq y a)
 
 from-is : (n a : ℕ) (test : ℕ → Bool) → From n a test (first-of n a test)
 from-is zero a test = λ y lo hi t. omega arith

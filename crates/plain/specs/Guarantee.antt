@@ -51,7 +51,7 @@ abbrev pub arrives : Meaning → Plain → ℕ → ℕ → ℕ → ℕ → Bool
 arrives m s a b n i =
     touched (in-use m s a .address) n (s .first + i)
     && carried (may-carry m (s .blocks) (in-use m s a) (in-use m s b)) (s .first) (s .cells) (in-use m s a .address) (in-use m s b .address) n
-      (source (in-use m s a .address) (in-use m s b .address) i)
+    (source (in-use m s a .address) (in-use m s b .address) i)
 
 -- what a call gives, by the state before it and its answer. Allocate gives its slot descent from the block whose serial it
 -- answers; move, narrow and restrict pass descent from slot b to slot a, fetch from granule to slot, put from slot to granule,

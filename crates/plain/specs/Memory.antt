@@ -54,7 +54,7 @@ started first count serial = record {
   next = serial;
   sweep = Shut;
   first = first;
-  cells = replicate count (0, false)
+  cells = replicate count (0, false);
 }
 
 -- a refusal leaves all as it was
@@ -128,7 +128,7 @@ with-block s a x size w = record {
   next = s .next + 1;
   sweep = s .sweep;
   first = s .first;
-  cells = blanked (s .first) (s .cells) x size
+  cells = blanked (s .first) (s .cells) x size;
 }
 
 -- slot a gets the capability over the whole block, its address at the start, with every right; the answer is the serial. The
@@ -318,7 +318,7 @@ call-copy m s a b n =
     demand (has StoreData ca && has LoadData cb) MissingRight s
     (demand (covered s ca n && covered s cb n) OutOfBounds s
     (accept (carried-count (may-carry m (s .blocks) ca cb) (s .first) (s .cells) (ca .address) (cb .address) n)
-      (with-cells s (copied (may-carry m (s .blocks) ca cb) (s .first) (s .cells) (ca .address) (cb .address) n))))))))
+    (with-cells s (copied (may-carry m (s .blocks) ca cb) (s .first) (s .cells) (ca .address) (cb .address) n))))))))
 
 -- OPEN, ADVANCE AND CLOSE
 
@@ -344,14 +344,14 @@ abbrev pub call-open : Meaning → Plain → Outcome
 call-open m s =
     demand (is-shut (s .sweep)) SweepOpen s
     (accept (length (kept-by (λ b. is-freed (b .state)) (s .blocks)))
-      (record {
-        slots = map (cleaned m (opened (s .blocks))) (s .slots);
-        blocks = opened (s .blocks);
-        next = s .next;
-        sweep = Open 0;
-        first = s .first;
-        cells = s .cells
-      }))
+    (record {
+      slots = map (cleaned m (opened (s .blocks))) (s .slots);
+      blocks = opened (s .blocks);
+      next = s .next;
+      sweep = Open 0;
+      first = s .first;
+      cells = s .cells;
+    }))
 
 -- a granule of a condemned block is untagged and keeps its word
 abbrev pub swept : Meaning → List Entry → List Cell → ℕ → Cell
@@ -365,14 +365,14 @@ abbrev pub call-advance : Meaning → Plain → ℕ → Outcome
 call-advance m s n =
     given (cursor-of (s .sweep)) s (λ cursor.
     accept (passed m s cursor n)
-      (record {
-        slots = s .slots;
-        blocks = s .blocks;
-        next = s .next;
-        sweep = Open (cursor + passed m s cursor n);
-        first = s .first;
-        cells = renewed (swept m (s .blocks) (s .cells)) (s .cells) cursor (cursor + passed m s cursor n)
-      }))
+    (record {
+      slots = s .slots;
+      blocks = s .blocks;
+      next = s .next;
+      sweep = Open (cursor + passed m s cursor n);
+      first = s .first;
+      cells = renewed (swept m (s .blocks) (s .cells)) (s .cells) cursor (cursor + passed m s cursor n);
+    }))
 
 -- condemned blocks leave the record; the answer is their bytes
 abbrev pub call-close : Meaning → Plain → Outcome
@@ -380,14 +380,14 @@ call-close m s =
     given (cursor-of (s .sweep)) s (λ cursor.
     demand (leb (usable m (s .first) (s .cells)) cursor) SweepUnfinished s
     (accept (sumBy size-of (kept-by (λ b. is-condemned (b .state)) (s .blocks)))
-      (record {
-        slots = s .slots;
-        blocks = kept-by (λ b. not (is-condemned (b .state))) (s .blocks);
-        next = s .next;
-        sweep = Shut;
-        first = s .first;
-        cells = s .cells
-      })))
+    (record {
+      slots = s .slots;
+      blocks = kept-by (λ b. not (is-condemned (b .state))) (s .blocks);
+      next = s .next;
+      sweep = Shut;
+      first = s .first;
+      cells = s .cells;
+    })))
 
 -- a call that answered r and left t did what is defined
 abbrev pub Gives : Outcome → Result ℕ Refusal → Plain → Type 0

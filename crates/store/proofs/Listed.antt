@@ -28,8 +28,8 @@ pub set-listed : (n : ℕ) (f g : ℕ → Cell) (i : ℕ) (v : Cell) → g i ≡
 set-listed n f g i v e h =
     sym (same-listed n (set (listed n f) i v) g (length-set (listed n f) i v ∙ length-listed n f)
     (λ k l. ⊎-elim
-        (λ q. let m : i < length (listed n f) = omega (arith, length-listed n f) in
-            let P : ℕ → Type 0 = λ j. getD (set (listed n f) i v) j (0, false) ≡ g j in
-            mathlib.Core.Path.subst P (sym q) (getD-set-same (listed n f) i v (0, false) m ∙ sym e))
-        (λ q. getD-set-other (listed n f) i k v (0, false) q ∙ getD-listed n f k (0, false) l ∙ sym (h k l q))
-        (cases-eq k i)))
+    (λ q. let m : i < length (listed n f) = omega (arith, length-listed n f) in
+    let P : ℕ → Type 0 = λ j. getD (set (listed n f) i v) j (0, false) ≡ g j in
+    mathlib.Core.Path.subst P (sym q) (getD-set-same (listed n f) i v (0, false) m ∙ sym e))
+    (λ q. getD-set-other (listed n f) i k v (0, false) q ∙ getD-listed n f k (0, false) l ∙ sym (h k l q))
+    (cases-eq k i)))

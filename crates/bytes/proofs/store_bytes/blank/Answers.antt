@@ -12,7 +12,7 @@ none i = (0, false)
 pub returns : need.returns
 returns g c = record {
   after = c .blank-granules .ensures .after
-    ∙ renewed-touched none (g .S·Store .origin (c .args .store .now)) (g .S·Store .cells (c .args .store .now)) (c .args .x) (c .args .n) _ _ (c .pre) (omega arith) (omega arith);
+      ∙ renewed-touched none (g .S·Store .origin (c .args .store .now)) (g .S·Store .cells (c .args .store .now)) (c .args .x) (c .args .n) _ _ (c .pre) (omega arith) (omega arith);
   fixed = c .blank-granules .ensures .fixed;
   held = c .blank-granules .ensures .held;
 }

@@ -16,13 +16,13 @@ pub loop-i-holds : need.loop-i-holds
 loop-i-holds g c = (renewed-none none (g .S·Store .cells (c .args .store .now)) (c .args .low), refl, refl)
 
 pub loop-i-again : need.loop-i-again
-loop-i-again g c =
-    ( c .set .ensures .after
+loop-i-again g c = (
+  c .set .ensures .after
       ∙ ap (λ (x : List Cell). set x (c .loop-i .i) (0, false)) (c .loop-i .inv .0)
-      ∙ renewed-more none (g .S·Store .cells (c .args .store .now)) (c .args .low) (c .loop-i .i) (0, false) (omega arith) refl
-    , c .set .ensures .fixed ∙ c .loop-i .inv .1
-    , c .set .ensures .held ∙ c .loop-i .inv .2
-    )
+      ∙ renewed-more none (g .S·Store .cells (c .args .store .now)) (c .args .low) (c .loop-i .i) (0, false) (omega arith) refl,
+  c .set .ensures .fixed ∙ c .loop-i .inv .1,
+  c .set .ensures .held ∙ c .loop-i .inv .2,
+)
 
 pub returns : need.returns
 returns g c =

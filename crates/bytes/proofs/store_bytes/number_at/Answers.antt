@@ -19,6 +19,6 @@ loop-k-again g c =
     let at = c .args .x + c .loop-k .k in
     let i : c .saturating-sub-granule .result ≡ at / 8 - f = omega arith in
     number-more (byte f cells) (c .args .x) (c .loop-k .k) (c .loop-k .value) (c .byte-of .result) (c .weight .result)
-      (c .loop-k .inv .0) (c .loop-k .inv .1)
-      (c .byte-of .ensures ∙ ap (λ (w : ℕ). byte-of w (at % 8)) (c .word-at .ensures ∙ ap (λ (n : ℕ). cell cells n .0) i))
-      (omega (arith, c .byte-of .ensures)) (c .weight .ensures)
+    (c .loop-k .inv .0) (c .loop-k .inv .1)
+    (c .byte-of .ensures ∙ ap (λ (w : ℕ). byte-of w (at % 8)) (c .word-at .ensures ∙ ap (λ (n : ℕ). cell cells n .0) i))
+    (omega (arith, c .byte-of .ensures)) (c .weight .ensures)

@@ -22,17 +22,17 @@ loop-i-again g c =
     let i = c .loop-i .i in
     let low = c .saturating-sub-low .result in
     let old : c .word-at .result ≡ cell cells i .0 =
-        c .word-at .ensures ∙ ap (λ (x : List Cell). cell x i .0) (c .loop-i .inv .0) ∙ ap (λ (x : Cell). x .0) (renewed-here new cells low i) in
+    c .word-at .ensures ∙ ap (λ (x : List Cell). cell x i .0) (c .loop-i .inv .0) ∙ ap (λ (x : Cell). x .0) (renewed-here new cells low i) in
     let number-is : c .first-first .result + i ≡ f + i = omega arith in
     let word-is : c .rewritten-word .result ≡ new i .0 =
-        c .rewritten-word .ensures
-        ∙ ap (λ (q : ℕ). number (written (λ y. byte-of (c .word-at .result) (y % 8)) (c .args .x) (c .args .width) (c .args .value)) (8 * q) 8) number-is
-        ∙ word-here f cells (c .args .x) (c .args .width) (c .args .value) i (c .word-at .result) old in
-    ( c .set .ensures .after
-      ∙ ap (λ (x : List Cell). set x i (c .rewritten-word .result, false)) (c .loop-i .inv .0)
-      ∙ renewed-more new cells low i (c .rewritten-word .result, false) (omega arith) (ap (λ (w : ℕ). (w, false)) word-is)
-    , c .set .ensures .fixed ∙ c .loop-i .inv .1
-    , c .set .ensures .held ∙ c .loop-i .inv .2
+    c .rewritten-word .ensures
+    ∙ ap (λ (q : ℕ). number (written (λ y. byte-of (c .word-at .result) (y % 8)) (c .args .x) (c .args .width) (c .args .value)) (8 * q) 8) number-is
+    ∙ word-here f cells (c .args .x) (c .args .width) (c .args .value) i (c .word-at .result) old in (
+      c .set .ensures .after
+          ∙ ap (λ (x : List Cell). set x i (c .rewritten-word .result, false)) (c .loop-i .inv .0)
+          ∙ renewed-more new cells low i (c .rewritten-word .result, false) (omega arith) (ap (λ (w : ℕ). (w, false)) word-is),
+      c .set .ensures .fixed ∙ c .loop-i .inv .1,
+      c .set .ensures .held ∙ c .loop-i .inv .2,
     )
 
 pub returns : need.returns

@@ -17,4 +17,4 @@ add-word c = let h = sum-fits (c .loop-j .word) (c .byte-after .result) (c .weig
 pub loop-j-again : need.loop-j-again
 loop-j-again c =
     number-more (written (λ (y : ℕ). byte-of (c .args .old) (y % 8)) (c .args .x) (c .args .width) (c .args .value)) (8 * c .args .g) (c .loop-j .j) (c .loop-j .word) (c .byte-after .result) (c .weight .result)
-      (c .loop-j .inv .0) (c .loop-j .inv .1) (c .byte-after .ensures) (small c) (c .weight .ensures)
+    (c .loop-j .inv .0) (c .loop-j .inv .1) (c .byte-after .ensures) (small c) (c .weight .ensures)
