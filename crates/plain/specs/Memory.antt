@@ -6,7 +6,7 @@ use Prim.Native.Nat.{ℕ, min, _+_, _*_, _-_, _/_, _%_}
 use lib.Bits.{bitAnd}
 use lib.Dec.{ltb, leb, eqb}
 use lib.ListN.{length, getD, set, replicate}
-use Rattle.std.specs.shelf.Lists.{kept-by, sumBy}
+use Rattle.std.specs.shelf.Lists.{countBy, kept-by, sumBy}
 use Rattle.std.specs.Options.{okOr}
 use Rattle.std.specs.declared.option.Option.{Option}
 use Rattle.std.specs.declared.option.Option.the-variants.{Some, None}
@@ -343,7 +343,7 @@ cleaned m bs v = record { word = v .word; tag = spared m bs (v .word) (v .tag) }
 abbrev pub call-open : Meaning → Plain → Outcome
 call-open m s =
     demand (is-shut (s .sweep)) SweepOpen s
-    (accept (length (kept-by (λ b. is-freed (b .state)) (s .blocks)))
+    (accept (countBy (λ b. is-freed (b .state)) (s .blocks))
     (record {
       slots = map (cleaned m (opened (s .blocks))) (s .slots);
       blocks = opened (s .blocks);

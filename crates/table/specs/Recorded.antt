@@ -1,0 +1,12 @@
+-- The blocks on record, as the plain memory has them.
+use mathlib.Core.List.{List, map}
+use lib.ListN.{take}
+use Rattle.plain.specs.Blocks.{Entry}
+use Rattle.table.specs.declared.block.Block.{Block}
+use Rattle.table.specs.declared.table.Table.{Table}
+
+abbrev pub entry : Block → Entry
+entry b = record { start = b .start; end = b .end; serial = b .serial; state = b .state }
+
+abbrev pub recorded : Table → List Entry
+recorded t = map entry (take (t .used) (t .blocks))
