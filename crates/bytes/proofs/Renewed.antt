@@ -7,7 +7,7 @@ use Prim.Native.Nat.{ℕ, min, max, _+_, _-_, _*_, _/_, _%_, _<_, _≤_}
 use native.Mathlib.Omega.{arith}
 use lib.Dec.{ltb, leb}
 use lib.ListN.{length, getD, set, replicate, getD-replicate, length-replicate}
-use Rattle.std.proofs.shelf.Lists.{getD-past, ext-getD}
+use Rattle.std.proofs.shelf.Lists.{getD-past, ext-getD, set-getD}
 use Rattle.std.proofs.shelf.Tests.{cases-bool, cases-lt, and-parts, and-from, ltb-true, leb-true, lt-ltb, le-leb, le-ltb, cond-true, cond-false, ltb-false}
 use Rattle.store.specs.Cells.{Cell, cell, listed}
 use Rattle.store.proofs.Listed.{length-listed, getD-listed, same-listed, set-listed}
@@ -85,3 +85,10 @@ word-here f cells a n v i old o =
     (λ k l. let q : (8 * (f + i) + k) / 8 - f ≡ i = omega arith in
     ap (λ (b : ℕ). cond (among a n (8 * (f + i) + k)) (byte-of v (8 * (f + i) + k - a)) b)
     (ap (λ (w : ℕ). byte-of w ((8 * (f + i) + k) % 8)) (o ∙ ap (λ (j : ℕ). cell cells j .0) (sym q))))
+
+-- one that is new as it was
+pub renewed-same : (new : ℕ → Cell) (cells : List Cell) (low j : ℕ) → low ≤ j → new j ≡ cell cells j → renewed new cells low j ≡ renewed new cells low (j + 1)
+renewed-same new cells low j lo e =
+    sym (set-getD (renewed new cells low j) j (0, false))
+    ∙ ap (set (renewed new cells low j) j) (renewed-here new cells low j)
+    ∙ renewed-more new cells low j (cell cells j) lo (sym e)

@@ -1,7 +1,7 @@
 //! Reading and writing bytes across granules.
 ghost use mathlib.Core.Path.{_≡_};
 ghost use mathlib.Core.Bool.{Bool, false};
-ghost use lib.ListN.{length, replicate, set};
+ghost use lib.ListN.{length, replicate};
 ghost use Prim.Native.Nat.{ℕ, _+_, _-_, _*_, _/_, _<_, _≤_};
 ghost use Rattle.store.specs.Cells.{Cell, cell};
 ghost use Rattle.bytes.specs.Bytes.{number, byte, renewed, stored, blanked};
@@ -38,24 +38,14 @@ pub fn number_at<S: Store>(store: &S, x: u32, width: u32) -> u64
     value
 }
 
-/// The word and the tag of the granule at address x; word 0, untagged, where the store has none there.
-pub fn granule_at<S: Store>(store: &S, x: u32) -> (u64, bool)
-    ensures { λ r. ⌜ r ≡ cell (S·Store .cells (now (store .entry))) (x / 8 - S·Store .origin (now (store .entry))) ⌝ }
+/// The word and the tag of granule i; word 0, untagged, past the last.
+pub fn granule_at<S: Store>(store: &S, i: u32) -> (u64, bool)
+    ensures { λ r. ⌜ r ≡ cell (S·Store .cells (now (store .entry))) i ⌝ }
 {
-    match store.get((x / 8).saturating_sub(store.first())) {
+    match store.get(i) {
         Ok(granule) => granule,
         Err(_) => (0, false),
     }
-}
-
-/// Sets the granule at address x.
-pub fn put_granule<S: Store>(store: &mut S, x: u32, word: u64, tag: bool)
-    ensures after { λ _. ⌜ S·Store .cells (now (store .exit)) ≡ set (S·Store .cells (now (store .entry))) (x / 8 - S·Store .origin (now (store .entry))) (word, tag) ⌝ }
-    ensures fixed { λ _. ⌜ S·Store .origin (now (store .exit)) ≡ S·Store .origin (now (store .entry)) ⌝ }
-    ensures held { λ _. ⌜ S·Store .holds (now (store .exit)) ≡ S·Store .holds (now (store .entry)) ⌝ }
-{
-    let i = (x / 8).saturating_sub(store.first());
-    let _ = store.set(i, word, tag);
 }
 
 /// Writes the low bytes of a value from address x on, and untags each granule that they touch.

@@ -77,8 +77,8 @@ pub passed : (bs : List Entry) (low high unit size start next k : ℕ) → k < l
     → (y : ℕ) → y < next → free-at bs low high unit size y ≡ true → ⊥
 passed bs low high unit size start next k l meets first before y h t =
     ⊎-elim (λ (b : y < start). before y b t)
-      (λ (b : start ≤ y). let r = room-of bs low high unit size y t in
-          ⊎-elim (λ (a : y + size ≤ entry-at bs k .start). absurd (omega arith))
-            (λ (a : entry-at bs k .end ≤ y). let f = first y (r .even) a in absurd (omega arith))
-            (r .clear k l))
-      (cases-lt y start)
+    (λ (b : start ≤ y). let r = room-of bs low high unit size y t in
+    ⊎-elim (λ (a : y + size ≤ entry-at bs k .start). absurd (omega arith))
+    (λ (a : entry-at bs k .end ≤ y). let f = first y (r .even) a in absurd (omega arith))
+    (r .clear k l))
+    (cases-lt y start)

@@ -20,7 +20,7 @@ kept-map p [] = refl
 kept-map p (b ∷ bs) = go (p (entry b)) (kept-map p bs)
   where
     go : (t : Bool) → map entry (kept-by (λ b. p (entry b)) bs) ≡ kept-by p (map entry bs)
-      → map entry (cond t (b ∷ kept-by (λ b. p (entry b)) bs) (kept-by (λ b. p (entry b)) bs)) ≡ cond t (entry b ∷ kept-by p (map entry bs)) (kept-by p (map entry bs))
+        → map entry (cond t (b ∷ kept-by (λ b. p (entry b)) bs) (kept-by (λ b. p (entry b)) bs)) ≡ cond t (entry b ∷ kept-by p (map entry bs)) (kept-by p (map entry bs))
     go true e = ap (λ (xs : List Entry). entry b ∷ xs) e
     go false e = e
 

@@ -1,6 +1,6 @@
 //! The table of blocks.
 pub mod block;
-pub mod table;
-pub mod search;
 pub mod records;
+pub mod search;
 pub mod states;
+pub mod table;

@@ -47,8 +47,16 @@ impl Table {
     pub fn new() -> Table
         ensures { λ t. ⌜ recorded t ≡ [] ⌝ }
     {
-        let unused = Block { start: 0, end: 8, serial: 0, state: State::Live };
-        Table { blocks: [unused; 64], used: 0 }
+        let unused = Block {
+            start: 0,
+            end: 8,
+            serial: 0,
+            state: State::Live,
+        };
+        Table {
+            blocks: [unused; 64],
+            used: 0,
+        }
     }
 
     /// Whether there are 64 blocks already.

@@ -31,7 +31,13 @@ impl Block {
 
 /// The lowest multiple of the unit, between low and high, where so many bytes touch no block. A block in the way is
 /// passed at once: the search goes on at the first multiple past its end.
-pub(crate) fn lowest_start(blocks: &[Block], low: u64, high: u64, unit: u64, size: u64) -> Option<u64>
+pub(crate) fn lowest_start(
+    blocks: &[Block],
+    low: u64,
+    high: u64,
+    unit: u64,
+    size: u64,
+) -> Option<u64>
     requires { ⌜ 0 < unit ⌝ ∗ ⌜ unit ≤ 2 ^ 32 ⌝ ∗ ⌜ low ≤ 2 ^ 36 ⌝ ∗ ⌜ size ≤ 2 ^ 36 ⌝ ∗ ⌜ high ≤ 2 ^ 36 ⌝ }
     ensures is { λ r. ⌜ r ≡ lowest-free (map entry (now (blocks .entry))) low high unit size ⌝ }
     ensures between { λ r. ⌜ BySome r (Unit {0}) (λ x. (low ≤ x) × (x + size ≤ high) × (x % unit ≡ 0)) ⌝ }

@@ -87,7 +87,12 @@ impl Block {
     fn opened(self) -> Block
         ensures { λ r. ⌜ entry r ≡ in-state (entry self) (opened-state (self .state)) ⌝ }
     {
-        Block { start: self.start, end: self.end, serial: self.serial, state: at_open(self.state) }
+        Block {
+            start: self.start,
+            end: self.end,
+            serial: self.serial,
+            state: at_open(self.state),
+        }
     }
 }
 

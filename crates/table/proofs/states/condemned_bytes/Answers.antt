@@ -18,8 +18,9 @@ loop-block-again c =
     let i = c .loop-block .inv .0 in
     let b = c .loop-block .inv .1 in
     elim (c .if-condemned .came) [
-      then-condemned w ↦ let q = rw (sym (c .condemned .ensures) ∙ w .if-condemned .taken) at e in (omega (arith, w .sum-is), omega (arith, w .sum-is))
-    | else-condemned w ↦ let q = rw (sym (c .condemned .ensures) ∙ w .if-condemned .left) at e in (omega (arith, w .sum-is), omega (arith, w .sum-is)) ]
+      | then-condemned w ↦ let q = rw (sym (c .condemned .ensures) ∙ w .if-condemned .taken) at e in (omega (arith, w .sum-is), omega (arith, w .sum-is))
+      | else-condemned w ↦ let q = rw (sym (c .condemned .ensures) ∙ w .if-condemned .left) at e in (omega (arith, w .sum-is), omega (arith, w .sum-is))
+    ]
 
 pub returns : need.returns
 returns c = c .loop-block .inv .0 ∙ ap (λ (bs : List Block). sumBy size-of (kept-by (λ b. is-condemned (b .state)) (map entry bs))) (take-all (c .loop-block .block-index) (c .args .blocks .now) (c .loop-block-test .left))

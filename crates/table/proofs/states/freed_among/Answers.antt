@@ -18,8 +18,9 @@ loop-block-again c =
     let i = c .loop-block .inv .0 in
     let b = c .loop-block .inv .1 in
     elim (c .if-freed .came) [
-      then-freed w ↦ let q = rw (sym (c .freed .ensures) ∙ w .if-freed .taken) at e in (omega (arith, w .count-is), omega (arith, w .count-is))
-    | else-freed w ↦ let q = rw (sym (c .freed .ensures) ∙ w .if-freed .left) at e in (omega (arith, w .count-is), omega (arith, w .count-is)) ]
+      | then-freed w ↦ let q = rw (sym (c .freed .ensures) ∙ w .if-freed .taken) at e in (omega (arith, w .count-is), omega (arith, w .count-is))
+      | else-freed w ↦ let q = rw (sym (c .freed .ensures) ∙ w .if-freed .left) at e in (omega (arith, w .count-is), omega (arith, w .count-is))
+    ]
 
 pub returns : need.returns
 returns c = c .loop-block .inv .0 ∙ ap (λ (bs : List Block). countBy (λ b. is-freed (b .state)) (map entry bs)) (take-all (c .loop-block .block-index) (c .args .blocks .now) (c .loop-block-test .left))

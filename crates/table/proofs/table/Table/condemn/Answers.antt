@@ -19,12 +19,13 @@ loop-i-again c =
     let t = c .loop-i .self in
     let i = c .loop-i .i in
     let lt : i < length (t .blocks) = omega (arith, c .args .self .now .few, t .sized) in
-    let long : i < length (map entry (c .args .self .now .blocks)) = omega (arith, length-map (c .args .self .now .blocks) entry, c .args .self .now .few, c .args .self .now .sized) in
-    ( map-set entry (t .blocks) i (c .opened .result)
-      ∙ ap (set (map entry (t .blocks)) i) (c .opened .ensures)
-      ∙ map-over-more open-entry (map entry (c .args .self .now .blocks)) (map entry (t .blocks)) i _ long (c .loop-i .inv .0)
-          (sym (getD-map entry (t .blocks) i (c .index-self-i .result) _ lt))
-    , c .loop-i .inv .1 )
+    let long : i < length (map entry (c .args .self .now .blocks)) = omega (arith, length-map (c .args .self .now .blocks) entry, c .args .self .now .few, c .args .self .now .sized) in (
+      map-set entry (t .blocks) i (c .opened .result)
+          ∙ ap (set (map entry (t .blocks)) i) (c .opened .ensures)
+          ∙ map-over-more open-entry (map entry (c .args .self .now .blocks)) (map entry (t .blocks)) i _ long (c .loop-i .inv .0)
+          (sym (getD-map entry (t .blocks) i (c .index-self-i .result) _ lt)),
+      c .loop-i .inv .1,
+    )
 
 pub returns : need.returns
 returns c =
@@ -37,10 +38,10 @@ returns c =
     record {
       count = c .freed-among-count .ensures ∙ ap (λ (n : ℕ). countBy (λ b. is-freed (b .state)) (map entry (take n (t .blocks)))) (let z : t .used - 0 ≡ t .used = omega arith in z);
       after =
-        sym (take-map entry (u .used) (u .blocks))
-        ∙ ap (λ (n : ℕ). take n (map entry (u .blocks))) (c .loop-i .inv .1)
-        ∙ ap (take (t .used)) (c .loop-i .inv .0)
-        ∙ ap (λ (n : ℕ). take (t .used) (opened (take n es) ++ drop n es)) i-is
-        ∙ take-at (opened (take (t .used) es)) (drop (t .used) es) (t .used) long
-        ∙ ap opened (take-map entry (t .used) (t .blocks));
+          sym (take-map entry (u .used) (u .blocks))
+          ∙ ap (λ (n : ℕ). take n (map entry (u .blocks))) (c .loop-i .inv .1)
+          ∙ ap (take (t .used)) (c .loop-i .inv .0)
+          ∙ ap (λ (n : ℕ). take (t .used) (opened (take n es) ++ drop n es)) i-is
+          ∙ take-at (opened (take (t .used) es)) (drop (t .used) es) (t .used) long
+          ∙ ap opened (take-map entry (t .used) (t .blocks));
     }

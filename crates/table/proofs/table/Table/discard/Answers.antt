@@ -21,8 +21,9 @@ loop-i-again c =
     let is = getD-default (u .blocks) (c .loop-i .i) (c .index-self-i .result) x lt in
     let test : not (is-condemned (x .state)) ≡ not (c .condemned .result) = sym (ap not (c .condemned .ensures)) in
     elim (c .if-not-condemned .came) [
-      then-not-condemned w ↦ simp (w .self-is, w .place-is) (keeping-more-set (c .loop-i .inv .0) lt (test ∙ ap not (w .if-not-condemned .taken)) is, c .loop-i .inv .1)
-    | else-not-condemned w ↦ simp (w .self-is, w .place-is) (keeping-more-no (c .loop-i .inv .0) lt (test ∙ ap not (w .if-not-condemned .left)) is, c .loop-i .inv .1) ]
+      | then-not-condemned w ↦ simp (w .self-is, w .place-is) (keeping-more-set (c .loop-i .inv .0) lt (test ∙ ap not (w .if-not-condemned .taken)) is, c .loop-i .inv .1)
+      | else-not-condemned w ↦ simp (w .self-is, w .place-is) (keeping-more-no (c .loop-i .inv .0) lt (test ∙ ap not (w .if-not-condemned .left)) is, c .loop-i .inv .1)
+    ]
 
 pub returns : need.returns
 returns c =
@@ -31,7 +32,7 @@ returns c =
     record {
       bytes = c .condemned-bytes-bytes .ensures ∙ ap (λ (n : ℕ). sumBy size-of (kept-by (λ b. is-condemned (b .state)) (map entry (take n (t .blocks))))) (let z : t .used - 0 ≡ t .used = omega arith in z);
       after =
-        ap (map entry) (c .loop-i .inv .0 .front)
-        ∙ ap (λ (n : ℕ). map entry (kept-by (λ b. not (is-condemned (b .state))) (take n (t .blocks)))) i-is
-        ∙ kept-map (λ b. not (is-condemned (b .state))) (take (t .used) (t .blocks));
+          ap (map entry) (c .loop-i .inv .0 .front)
+          ∙ ap (λ (n : ℕ). map entry (kept-by (λ b. not (is-condemned (b .state))) (take n (t .blocks)))) i-is
+          ∙ kept-map (λ b. not (is-condemned (b .state))) (take (t .used) (t .blocks));
     }

@@ -26,14 +26,14 @@ returns-then-has c =
     let within : c .loop-i .i < length (recorded t) = omega (arith, long t) in
     record {
       is = is-least (length (recorded t)) (λ i. holds (entry-at (recorded t) i) (c .args .c .base)) (Some (c .loop-i .i))
-        (within, sym (c .if-has .ensures tt ∙ here t (c .loop-i .i) (c .index-self-i .result) (c .args .c .base) (c .loop-i-test .taken)), c .loop-i .inv);
+          (within, sym (c .if-has .ensures tt ∙ here t (c .loop-i .i) (c .index-self-i .result) (c .args .c .base) (c .loop-i-test .taken)), c .loop-i .inv);
       within = within;
     }
 
 pub loop-i-again : need.loop-i-again
 loop-i-again c =
     below-more _ _ (c .loop-i .inv)
-      (both-ways _ (sym (c .if-has .ensures tt ∙ here (c .args .self .now) (c .loop-i .i) (c .index-self-i .result) (c .args .c .base) (c .loop-i-test .taken))))
+    (both-ways _ (sym (c .if-has .ensures tt ∙ here (c .args .self .now) (c .loop-i .i) (c .index-self-i .result) (c .args .c .base) (c .loop-i-test .taken))))
 
 pub returns : need.returns
 returns c =

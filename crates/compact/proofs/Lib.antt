@@ -1,0 +1,4 @@
+pub mod Powers
+pub mod Inverse
+pub mod Laws
+pub mod Units
