@@ -1,0 +1,4 @@
+pub mod Widths
+pub mod Sayings
+pub mod Turns
+pub mod Sessions

@@ -1,0 +1,5 @@
+pub mod Checks
+pub mod Codes
+pub mod Calls
+pub mod Headings
+pub mod Run
