@@ -68,6 +68,11 @@ renewed-touched new f cells a n low high z p q =
     ap (λ (l : ℕ). renewed new cells l high) p ∙ ap (renewed new cells (a / 8 - f)) q
     ∙ listed-ext (length cells) _ _ (λ k l. ap (λ (b : Bool). cond b (new k) (cell cells k)) (sym (touched-index f a n k z)))
 
+-- no bytes touch no granule
+pub overlaid-none : (new : ℕ → Cell) (f : ℕ) (cells : List Cell) (a n : ℕ) → n ≡ 0 → cells ≡ overlaid new f cells a n
+overlaid-none new f cells a n z =
+    same-listed (length cells) cells _ refl (λ k l. sym (cond-false _ _ _ (le-ltb (max a (8 * (f + k))) (min (a + n) (8 * (f + k) + 8)) (omega arith))))
+
 pub renewed-clear : (cells : List Cell) → renewed (λ i. (0, false)) cells 0 (length cells) ≡ replicate (length cells) (0, false)
 renewed-clear cells =
     ext-getD (0, false) _ _ (length-listed (length cells) (λ i. cond (leb 0 i && ltb i (length cells)) (0, false) (cell cells i)) ∙ sym (length-replicate (length cells) (0, false)))

@@ -53,7 +53,7 @@ pub fn put_number<S: Store>(store: &mut S, x: u32, width: u32, value: u64)
     requires { ⌜ 0 < width ⌝ ∗ ⌜ width ≤ 8 ⌝ }
     ensures after { λ _. ⌜ S·Store .cells (now (store .exit)) ≡ stored (S·Store .origin (now (store .entry))) (S·Store .cells (now (store .entry))) x width value ⌝ }
     ensures fixed { λ _. ⌜ S·Store .origin (now (store .exit)) ≡ S·Store .origin (now (store .entry)) ⌝ }
-    ensures held { λ _. ⌜ S·Store .holds (now (store .exit)) ≡ S·Store .holds (now (store .entry)) ⌝ }
+    ensures held { λ _. ⌜ S·Store .kept (now (store .exit)) ≡ S·Store .kept (now (store .entry)) ⌝ }
 {
     let first = store.first() as u64;
     let from = x as u64;
@@ -71,7 +71,7 @@ fn blank_granules<S: Store>(store: &mut S, low: u64, high: u64)
     requires { ⌜ low ≤ high ⌝ ∗ ⌜ high < 4294967296 ⌝ }
     ensures after { λ _. ⌜ S·Store .cells (now (store .exit)) ≡ renewed (λ i. (0, false)) (S·Store .cells (now (store .entry))) low high ⌝ }
     ensures fixed { λ _. ⌜ S·Store .origin (now (store .exit)) ≡ S·Store .origin (now (store .entry)) ⌝ }
-    ensures held { λ _. ⌜ S·Store .holds (now (store .exit)) ≡ S·Store .holds (now (store .entry)) ⌝ }
+    ensures held { λ _. ⌜ S·Store .kept (now (store .exit)) ≡ S·Store .kept (now (store .entry)) ⌝ }
 {
     for i in low..high {
         let _ = store.set(i as u32, 0, false);
@@ -80,11 +80,13 @@ fn blank_granules<S: Store>(store: &mut S, low: u64, high: u64)
 
 /// Makes the granules of n bytes from address x on word 0, untagged.
 pub fn blank<S: Store>(store: &mut S, x: u32, n: u32)
-    requires { ⌜ 0 < n ⌝ }
     ensures after { λ _. ⌜ S·Store .cells (now (store .exit)) ≡ blanked (S·Store .origin (now (store .entry))) (S·Store .cells (now (store .entry))) x n ⌝ }
     ensures fixed { λ _. ⌜ S·Store .origin (now (store .exit)) ≡ S·Store .origin (now (store .entry)) ⌝ }
-    ensures held { λ _. ⌜ S·Store .holds (now (store .exit)) ≡ S·Store .holds (now (store .entry)) ⌝ }
+    ensures held { λ _. ⌜ S·Store .kept (now (store .exit)) ≡ S·Store .kept (now (store .entry)) ⌝ }
 {
+    if n == 0 {
+        return;
+    }
     let first = store.first() as u64;
     let from = x as u64;
     let low = (from / 8).saturating_sub(first);
@@ -96,7 +98,7 @@ pub fn blank<S: Store>(store: &mut S, x: u32, n: u32)
 pub fn clear<S: Store>(store: &mut S)
     ensures after { λ _. ⌜ S·Store .cells (now (store .exit)) ≡ replicate (length (S·Store .cells (now (store .entry)))) (0, false) ⌝ }
     ensures fixed { λ _. ⌜ S·Store .origin (now (store .exit)) ≡ S·Store .origin (now (store .entry)) ⌝ }
-    ensures held { λ _. ⌜ S·Store .holds (now (store .exit)) ≡ S·Store .holds (now (store .entry)) ⌝ }
+    ensures held { λ _. ⌜ S·Store .kept (now (store .exit)) ≡ S·Store .kept (now (store .entry)) ⌝ }
 {
     blank_granules(store, 0, store.count() as u64);
 }

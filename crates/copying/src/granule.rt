@@ -68,7 +68,7 @@ pub(crate) fn copy_granule<S: Store, T: Test>(
     ensures after { λ _. ⌜ S·Store .cells (now (store .exit)) ≡ set (S·Store .cells (now (store .entry))) i (arriving (T·Test .passes (now (test .entry))) (S·Store .origin (now (store .entry))) (S·Store .cells (now (store .entry))) (8 * S·Store .origin (now (store .entry)) + to) (8 * S·Store .origin (now (store .entry)) + from) size i) ⌝ }
     ensures number { λ r. ⌜ r ≡ cond (carried (T·Test .passes (now (test .entry))) (S·Store .origin (now (store .entry))) (S·Store .cells (now (store .entry))) (8 * S·Store .origin (now (store .entry)) + to) (8 * S·Store .origin (now (store .entry)) + from) size (source (8 * S·Store .origin (now (store .entry)) + to) (8 * S·Store .origin (now (store .entry)) + from) i)) 1 0 ⌝ }
     ensures fixed { λ _. ⌜ S·Store .origin (now (store .exit)) ≡ S·Store .origin (now (store .entry)) ⌝ }
-    ensures held { λ _. ⌜ S·Store .holds (now (store .exit)) ≡ S·Store .holds (now (store .entry)) ⌝ }
+    ensures held { λ _. ⌜ S·Store .kept (now (store .exit)) ≡ S·Store .kept (now (store .entry)) ⌝ }
 {
     let start = 8 * i;
     if to <= start && start + 8 <= to + size {

@@ -27,7 +27,7 @@ fn copy_up<S: Store, T: Test>(store: &mut S, test: &T, to: u32, from: u32, size:
     ensures after { λ _. ⌜ S·Store .cells (now (store .exit)) ≡ copied (T·Test .passes (now (test .entry))) (S·Store .origin (now (store .entry))) (S·Store .cells (now (store .entry))) (8 * S·Store .origin (now (store .entry)) + to) (8 * S·Store .origin (now (store .entry)) + from) size ⌝ }
     ensures number { λ r. ⌜ r ≡ carried-count (T·Test .passes (now (test .entry))) (S·Store .origin (now (store .entry))) (S·Store .cells (now (store .entry))) (8 * S·Store .origin (now (store .entry)) + to) (8 * S·Store .origin (now (store .entry)) + from) size ⌝ }
     ensures fixed { λ _. ⌜ S·Store .origin (now (store .exit)) ≡ S·Store .origin (now (store .entry)) ⌝ }
-    ensures held { λ _. ⌜ S·Store .holds (now (store .exit)) ≡ S·Store .holds (now (store .entry)) ⌝ }
+    ensures held { λ _. ⌜ S·Store .kept (now (store .exit)) ≡ S·Store .kept (now (store .entry)) ⌝ }
 {
     let mut carried = 0;
     for i in to / 8..(to + size + 7) / 8 {
@@ -43,7 +43,7 @@ fn copy_down<S: Store, T: Test>(store: &mut S, test: &T, to: u32, from: u32, siz
     ensures after { λ _. ⌜ S·Store .cells (now (store .exit)) ≡ copied (T·Test .passes (now (test .entry))) (S·Store .origin (now (store .entry))) (S·Store .cells (now (store .entry))) (8 * S·Store .origin (now (store .entry)) + to) (8 * S·Store .origin (now (store .entry)) + from) size ⌝ }
     ensures number { λ r. ⌜ r ≡ carried-count (T·Test .passes (now (test .entry))) (S·Store .origin (now (store .entry))) (S·Store .cells (now (store .entry))) (8 * S·Store .origin (now (store .entry)) + to) (8 * S·Store .origin (now (store .entry)) + from) size ⌝ }
     ensures fixed { λ _. ⌜ S·Store .origin (now (store .exit)) ≡ S·Store .origin (now (store .entry)) ⌝ }
-    ensures held { λ _. ⌜ S·Store .holds (now (store .exit)) ≡ S·Store .holds (now (store .entry)) ⌝ }
+    ensures held { λ _. ⌜ S·Store .kept (now (store .exit)) ≡ S·Store .kept (now (store .entry)) ⌝ }
 {
     let mut carried = 0;
     for i in (to / 8..(to + size + 7) / 8).rev() {
@@ -60,7 +60,7 @@ pub fn copy_bytes<S: Store, T: Test>(store: &mut S, test: &T, to: u32, from: u32
     ensures after { λ _. ⌜ S·Store .cells (now (store .exit)) ≡ copied (T·Test .passes (now (test .entry))) (S·Store .origin (now (store .entry))) (S·Store .cells (now (store .entry))) to from size ⌝ }
     ensures number { λ r. ⌜ r ≡ carried-count (T·Test .passes (now (test .entry))) (S·Store .origin (now (store .entry))) (S·Store .cells (now (store .entry))) to from size ⌝ }
     ensures fixed { λ _. ⌜ S·Store .origin (now (store .exit)) ≡ S·Store .origin (now (store .entry)) ⌝ }
-    ensures held { λ _. ⌜ S·Store .holds (now (store .exit)) ≡ S·Store .holds (now (store .entry)) ⌝ }
+    ensures held { λ _. ⌜ S·Store .kept (now (store .exit)) ≡ S·Store .kept (now (store .entry)) ⌝ }
 {
     if size == 0 {
         return 0;

@@ -55,7 +55,10 @@ mod tests {
     #[test]
     fn no_capability() -> Result<(), Fail> {
         check_eq(CompactFormat::read(0), Err(Refusal::NotCapability))?;
-        check_eq(ExactFormat::read(18014398509481984), Err(Refusal::NotCapability))?;
+        check_eq(
+            ExactFormat::read(18014398509481984),
+            Err(Refusal::NotCapability),
+        )?;
         check_eq(
             ExactFormat::read(0),
             Ok(Capability {

@@ -11,7 +11,7 @@ use mir.Val.{boolByte}
 use Rattle.std.proofs.shelf.Lists.{getD-set-same, getD-set-other}
 use Rattle.std.proofs.shelf.Tests.{cases-eq}
 use Rattle.std.proofs.shelf.Bits.{mod-below, pow-pos}
-use Rattle.flat.specs.Flat.{bit, withBit, tagAt, withTag}
+use Rattle.flat.specs.Flat.{bit, withBit, tagBit, tagAt, withTag}
 use Rattle.flat.proofs.Bits.{parts-of, with-is, bit-same, bit-other}
 
 bool-below : (v : Bool) → boolByte v < 2
@@ -41,17 +41,20 @@ module _ (tags : List ℕ) (i : ℕ) (t : Bool) (fits : i < 8 * length tags) whe
       ∙ ap (λ x. eqb x 1) (bit-same (old / 2 ^ k / 2) k (boolByte t) (old % 2 ^ k) (bool-below t) (mod-below old (2 ^ k) (pow-pos k)))
       ∙ bool-bit t
 
-  pub tag-other : (j : ℕ) → j ≢ i → tagAt (withTag tags i t) j ≡ tagAt tags j
-  tag-other j ne =
+  pub bit-kept : (j : ℕ) → j ≢ i → tagBit (withTag tags i t) j ≡ tagBit tags j
+  bit-kept j ne =
       ⊎-elim
       (λ (e : j / 8 ≡ i / 8).
       let nk : j % 8 ≢ k = λ q. ne (omega arith) in
       let two : bit old k < 2 = omega arith in
-      ap (λ n. eqb (bit (getD (withTag tags i t) n 0) (j % 8)) 1) e
-      ∙ ap (λ x. eqb (bit x (j % 8)) 1) (written ∙ with-is old k (boolByte t))
-      ∙ ap (λ x. eqb x 1) (bit-other (old / 2 ^ k / 2) k (boolByte t) (bit old k) (old % 2 ^ k) (j % 8)
-      (bool-below t) two (mod-below old (2 ^ k) (pow-pos k)) nk)
-      ∙ ap (λ x. eqb (bit x (j % 8)) 1) (sym (parts-of old k))
-      ∙ ap (λ n. eqb (bit (getD tags n 0) (j % 8)) 1) (sym e))
-      (λ (n : j / 8 ≢ i / 8). ap (λ x. eqb (bit x (j % 8)) 1) (getD-set-other tags (i / 8) (j / 8) new 0 n))
+      ap (λ n. bit (getD (withTag tags i t) n 0) (j % 8)) e
+      ∙ ap (λ x. bit x (j % 8)) (written ∙ with-is old k (boolByte t))
+      ∙ bit-other (old / 2 ^ k / 2) k (boolByte t) (bit old k) (old % 2 ^ k) (j % 8)
+      (bool-below t) two (mod-below old (2 ^ k) (pow-pos k)) nk
+      ∙ ap (λ x. bit x (j % 8)) (sym (parts-of old k))
+      ∙ ap (λ n. bit (getD tags n 0) (j % 8)) (sym e))
+      (λ (n : j / 8 ≢ i / 8). ap (λ x. bit x (j % 8)) (getD-set-other tags (i / 8) (j / 8) new 0 n))
       (cases-eq (j / 8) (i / 8))
+
+  pub tag-other : (j : ℕ) → j ≢ i → tagAt (withTag tags i t) j ≡ tagAt tags j
+  tag-other j ne = ap (λ x. eqb x 1) (bit-kept j ne)

@@ -9,7 +9,7 @@ use lib.Dec.{eqb}
 use lib.ListN.{length, getD, take, drop}
 use borrow.Rule.Slice.PartMut.{putMid}
 use Rattle.std.specs.Iters.{counting}
-use Rattle.std.proofs.shelf.Lists.{length-take-le, length-drop, length-append, getD-append-left, getD-append-right, getD-take, getD-drop}
+use Rattle.std.proofs.shelf.Lists.{length-take-le, length-drop, length-append, getD-append-left, getD-append-right, getD-take, getD-drop, ext-getD}
 use Rattle.std.proofs.shelf.Counted.{length-map-counting, getD-map-counting, fill-by-all}
 use Rattle.std.proofs.shelf.Tests.{cases-lt, eq-eqb, ne-eqb, cond-true, cond-false}
 use Rattle.flat.specs.Flat.{total, wordAt, withWord}
@@ -102,3 +102,14 @@ module _ (bytes : List ℕ) (i w : ℕ) (fits : 8 * i + 8 ≤ length bytes) wher
       total-same 8 (λ k. getD (withWord bytes i w) (8 * j + k) 0 * 256 ^ k) (λ k. getD bytes (8 * j + k) 0 * 256 ^ k)
       (λ k l. ap (λ b. b * 256 ^ k)
       (byte-of (8 * j + k) (omega arith) ∙ sym (after-out (8 * j + k) (λ q. n (omega arith)))))
+
+  -- the bytes behind granule i are as they were
+  pub behind-word : (n : ℕ) → i < n → drop (8 * n) (withWord bytes i w) ≡ drop (8 * n) bytes
+  behind-word n b =
+      let new : List ℕ = withWord bytes i w in
+      let a = length-drop (8 * n) new in
+      let o = length-drop (8 * n) bytes in
+      let long = length-withWord in
+      ext-getD 0 (drop (8 * n) new) (drop (8 * n) bytes) (omega arith)
+      (λ p l. getD-drop (8 * n) new p 0 ∙ byte-of (8 * n + p) (omega arith)
+      ∙ sym (after-out (8 * n + p) (λ q. let z : ⊥ = omega arith in z)) ∙ sym (getD-drop (8 * n) bytes p 0))

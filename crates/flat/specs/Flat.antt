@@ -1,14 +1,15 @@
 -- What the two buffers of a flat store mean, and what they hold once a granule is set.
 use mathlib.Core.Path.{_≡_}
 use mathlib.Core.Bool.{Bool, cond}
-use mathlib.Core.List.{List, map}
+use mathlib.Core.List.{List, [], _∷_, map, _++_}
 use Prim.Native.Nat.{ℕ, zero, suc, min, _+_, _-_, _*_, _/_, _%_, _^_, _≤_}
 use native.Mathlib.Omega.{arith}
 use lib.Dec.{eqb, ltb}
-use lib.ListN.{length, getD, set}
+use lib.ListN.{length, getD, set, drop}
+use base.Fml.{GName}
 use mir.Val.{boolByte}
 use Rattle.std.specs.Iters.{counting}
-use Rattle.store.specs.Cells.{Cell, listed, length-listed}
+use Rattle.store.specs.Cells.{Cell, Kept, listed, length-listed}
 
 -- the sum of what f says of each number below n
 abbrev pub total : ℕ → (ℕ → ℕ) → ℕ
@@ -23,9 +24,13 @@ wordAt bytes i = total 8 (λ k. getD bytes (8 * i + k) 0 * 256 ^ k)
 abbrev pub bit : ℕ → ℕ → ℕ
 bit b k = b / 2 ^ k % 2
 
--- the tag of granule i: bit i modulo 8 of tag byte i / 8
+-- tag bit i: bit i modulo 8 of tag byte i / 8
+abbrev pub tagBit : List ℕ → ℕ → ℕ
+tagBit tags i = bit (getD tags (i / 8) 0) (i % 8)
+
+-- the tag of granule i: tag bit i is 1
 abbrev pub tagAt : List ℕ → ℕ → Bool
-tagAt tags i = eqb (bit (getD tags (i / 8) 0) (i % 8)) 1
+tagAt tags i = eqb (tagBit tags i) 1
 
 -- the largest count up to 8,192 that fits both buffers
 abbrev pub fitting : List ℕ → List ℕ → ℕ
@@ -54,6 +59,17 @@ dataAfter bytes tags i w = cond (ltb i (fitting bytes tags)) (withWord bytes i w
 
 abbrev pub tagsAfter : List ℕ → List ℕ → ℕ → Bool → List ℕ
 tagsAfter bytes tags i t = cond (ltb i (fitting bytes tags)) (withTag tags i t) tags
+
+-- what the buffers hold besides n granules: the bytes behind the last granule, and the tag bits behind its tag
+unfoldable pub leftOver : ℕ → List ℕ → List ℕ → List ℕ
+leftOver n bytes tags = drop (8 * n) bytes ++ map (tagBit tags) (counting n (8 * length tags - n))
+
+-- what no call changes: the references to the buffers, and what they hold besides the granules
+abbrev pub flatKept : GName → GName → List ℕ → List ℕ → Kept
+flatKept data-name tags-name bytes tags = record {
+  references = data-name ∷ tags-name ∷ [];
+  rest = leftOver (fitting bytes tags) bytes tags;
+}
 
 -- there are at most 8,192
 pub flat-short : (bytes tags : List ℕ) → length (flatCells bytes tags) ≤ 8192

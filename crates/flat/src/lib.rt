@@ -1,11 +1,10 @@
 //! The flat store: a data buffer, eight bytes to a granule, and a tag buffer, one bit to a granule.
 ghost use mathlib.Core.Path.{_≡_};
-ghost use mathlib.Core.List.{List, [], _∷_};
 ghost use denote.Ref.{now, name};
 ghost use lib.ListN.{length, set};
 ghost use Prim.Native.Nat.{ℕ};
 ghost use Rattle.store.specs.Cells.{within};
-ghost use Rattle.flat.specs.Flat.{flatCells, flat-short, dataAfter, tagsAfter};
+ghost use Rattle.flat.specs.Flat.{flatCells, flat-short, flatKept, dataAfter, tagsAfter};
 
 mod buffers;
 
@@ -34,7 +33,7 @@ pub impl<'a> Store for Flat<'a> as FlatStore {
 
     ghost cells = { λ s. flatCells (now (s .«data»)) (now (s .tags)) };
 
-    ghost holds = { λ s. name (s .«data») ∷ name (s .tags) ∷ [] };
+    ghost kept = { λ s. flatKept (name (s .«data»)) (name (s .tags)) (now (s .«data»)) (now (s .tags)) };
 
     ghost short = { λ s. flat-short (now (s .«data»)) (now (s .tags)) };
 
@@ -64,7 +63,7 @@ pub impl<'a> Store for Flat<'a> as FlatStore {
         ensures outcome { λ r. ⌜ r ≡ within (flatCells (now (now (self .entry) .«data»)) (now (now (self .entry) .tags))) i tt ⌝ }
         ensures after { λ _. ⌜ flatCells (now (now (self .exit) .«data»)) (now (now (self .exit) .tags)) ≡ set (flatCells (now (now (self .entry) .«data»)) (now (now (self .entry) .tags))) i (word, tag) ⌝ }
         ensures fixed { λ _. ⌜ _≡_ {A = ℕ} 0 0 ⌝ }
-        ensures held { λ _. ⌜ (name (now (self .exit) .«data») ∷ name (now (self .exit) .tags) ∷ []) ≡ (name (now (self .entry) .«data») ∷ name (now (self .entry) .tags) ∷ []) ⌝ }
+        ensures held { λ _. ⌜ flatKept (name (now (self .exit) .«data»)) (name (now (self .exit) .tags)) (now (now (self .exit) .«data»)) (now (now (self .exit) .tags)) ≡ flatKept (name (now (self .entry) .«data»)) (name (now (self .entry) .tags)) (now (now (self .entry) .«data»)) (now (now (self .entry) .tags)) ⌝ }
         ensures bytes { λ _. ⌜ now (now (self .exit) .«data») ≡ dataAfter (now (now (self .entry) .«data»)) (now (now (self .entry) .tags)) i word ⌝ }
         ensures bits { λ _. ⌜ now (now (self .exit) .tags) ≡ tagsAfter (now (now (self .entry) .«data»)) (now (now (self .entry) .tags)) i tag ⌝ }
     {

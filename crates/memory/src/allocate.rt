@@ -1,12 +1,11 @@
 //! Allocation.
 ghost use mathlib.Core.Path.{_≡_};
-ghost use Prim.Native.Nat.{ℕ, _+_, _*_, _%_, _<_, _≤_};
+ghost use Prim.Native.Nat.{_+_, _%_, _<_, _≤_};
 ghost use denote.Ref.{name};
 ghost use Rattle.std.specs.Options.{okOr};
 ghost use Rattle.std.specs.Vec.{made};
 ghost use Rattle.capability.specs.declared.refusal.Refusal.the-variants.{NoRoom};
-ghost use Rattle.plain.specs.Blocks.{lowest-free};
-ghost use Rattle.plain.specs.Memory.{Gives, usable as usable-count, call-allocate};
+ghost use Rattle.plain.specs.Memory.{Matches, room, call-allocate};
 ghost use Rattle.table.specs.Recorded.{recorded};
 ghost use Rattle.memory.specs.Of.{plain};
 use crate::memory::Memory;
@@ -37,7 +36,7 @@ fn place_for<F: Format, S: Store>(
     whole: u32,
 ) -> Result<u32, Refusal>
     requires { ⌜ 0 < unit ⌝ ∗ ⌜ 0 < whole ⌝ }
-    ensures is { λ r. ⌜ r ≡ okOr (lowest-free (recorded (now (table .entry))) (8 * S·Store .origin (now (store .entry))) (8 * (S·Store .origin (now (store .entry)) + usable-count (F·Format .meaning) (S·Store .origin (now (store .entry))) (S·Store .cells (now (store .entry))))) unit whole) NoRoom ⌝ }
+    ensures is { λ r. ⌜ r ≡ okOr (room (F·Format .meaning) (S·Store .origin (now (store .entry))) (S·Store .cells (now (store .entry))) (recorded (now (table .entry))) unit whole) NoRoom ⌝ }
     ensures between { λ r. ⌜ made r (λ x. (x + whole ≤ 4294967288) × (x % unit ≡ 0)) ⌝ }
 {
     let first = store.first() as u64;
@@ -51,9 +50,9 @@ fn place_for<F: Format, S: Store>(
 impl<F: Format, S: Store> Memory<'_, F, S> {
     /// A new block at the lowest multiple of the unit where it has room; its capability goes to the slot. Answers its serial.
     pub fn allocate(&mut self, slot: u32, size: u32) -> Result<u64, Refusal>
-        ensures does { λ r. ⌜ Gives (call-allocate (F·Format .meaning) (plain (S·Store .origin) (S·Store .cells) (now (self .entry))) slot size) r (plain (S·Store .origin) (S·Store .cells) (now (self .exit))) ⌝ }
+        ensures does { λ r. ⌜ Matches (call-allocate (F·Format .meaning) (plain (S·Store .origin) (S·Store .cells) (now (self .entry))) slot size) r (plain (S·Store .origin) (S·Store .cells) (now (self .exit))) ⌝ }
         ensures named { λ _. ⌜ name (now (self .exit) .store) ≡ name (now (self .entry) .store) ⌝ }
-        ensures held { λ _. ⌜ S·Store .holds (now (now (self .exit) .store)) ≡ S·Store .holds (now (now (self .entry) .store)) ⌝ }
+        ensures held { λ _. ⌜ S·Store .kept (now (now (self .exit) .store)) ≡ S·Store .kept (now (now (self .entry) .store)) ⌝ }
     {
         if slot >= SLOTS {
             return Err(Refusal::NoSuchSlot);

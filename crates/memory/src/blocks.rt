@@ -2,7 +2,7 @@
 ghost use mathlib.Core.Path.{_≡_};
 ghost use denote.Ref.{name};
 ghost use Rattle.plain.specs.Blocks.{is-live, is-whole};
-ghost use Rattle.plain.specs.Memory.{Gives, call-free, call-whose, call-tally};
+ghost use Rattle.plain.specs.Memory.{Matches, call-free, call-whose, call-tally};
 ghost use Rattle.table.specs.Recorded.{entry};
 ghost use Rattle.memory.specs.Of.{plain};
 use crate::memory::Memory;
@@ -36,9 +36,9 @@ fn is_all(c: Capability, block: Block) -> bool
 impl<F: Format, S: Store> Memory<'_, F, S> {
     /// The block of the slot's capability turns freed. Answers its serial.
     pub fn free(&mut self, slot: u32) -> Result<u64, Refusal>
-        ensures does { λ r. ⌜ Gives (call-free (F·Format .meaning) (plain (S·Store .origin) (S·Store .cells) (now (self .entry))) slot) r (plain (S·Store .origin) (S·Store .cells) (now (self .exit))) ⌝ }
+        ensures does { λ r. ⌜ Matches (call-free (F·Format .meaning) (plain (S·Store .origin) (S·Store .cells) (now (self .entry))) slot) r (plain (S·Store .origin) (S·Store .cells) (now (self .exit))) ⌝ }
         ensures named { λ _. ⌜ name (now (self .exit) .store) ≡ name (now (self .entry) .store) ⌝ }
-        ensures held { λ _. ⌜ S·Store .holds (now (now (self .exit) .store)) ≡ S·Store .holds (now (now (self .entry) .store)) ⌝ }
+        ensures held { λ _. ⌜ S·Store .kept (now (now (self .exit) .store)) ≡ S·Store .kept (now (now (self .entry) .store)) ⌝ }
     {
         if slot >= SLOTS {
             return Err(Refusal::NoSuchSlot);
@@ -60,9 +60,9 @@ impl<F: Format, S: Store> Memory<'_, F, S> {
 
     /// Answers the serial of the capability's block.
     pub fn whose(&mut self, slot: u32) -> Result<u64, Refusal>
-        ensures does { λ r. ⌜ Gives (call-whose (F·Format .meaning) (plain (S·Store .origin) (S·Store .cells) (now (self .entry))) slot) r (plain (S·Store .origin) (S·Store .cells) (now (self .exit))) ⌝ }
+        ensures does { λ r. ⌜ Matches (call-whose (F·Format .meaning) (plain (S·Store .origin) (S·Store .cells) (now (self .entry))) slot) r (plain (S·Store .origin) (S·Store .cells) (now (self .exit))) ⌝ }
         ensures named { λ _. ⌜ name (now (self .exit) .store) ≡ name (now (self .entry) .store) ⌝ }
-        ensures held { λ _. ⌜ S·Store .holds (now (now (self .exit) .store)) ≡ S·Store .holds (now (now (self .entry) .store)) ⌝ }
+        ensures held { λ _. ⌜ S·Store .kept (now (now (self .exit) .store)) ≡ S·Store .kept (now (now (self .entry) .store)) ⌝ }
     {
         if slot >= SLOTS {
             return Err(Refusal::NoSuchSlot);
@@ -76,9 +76,9 @@ impl<F: Format, S: Store> Memory<'_, F, S> {
 
     /// Answers the bytes summed over every block on record.
     pub fn tally(&mut self) -> Result<u64, Refusal>
-        ensures does { λ r. ⌜ Gives (call-tally (plain (S·Store .origin) (S·Store .cells) (now (self .entry)))) r (plain (S·Store .origin) (S·Store .cells) (now (self .exit))) ⌝ }
+        ensures does { λ r. ⌜ Matches (call-tally (plain (S·Store .origin) (S·Store .cells) (now (self .entry)))) r (plain (S·Store .origin) (S·Store .cells) (now (self .exit))) ⌝ }
         ensures named { λ _. ⌜ name (now (self .exit) .store) ≡ name (now (self .entry) .store) ⌝ }
-        ensures held { λ _. ⌜ S·Store .holds (now (now (self .exit) .store)) ≡ S·Store .holds (now (now (self .entry) .store)) ⌝ }
+        ensures held { λ _. ⌜ S·Store .kept (now (now (self .exit) .store)) ≡ S·Store .kept (now (now (self .entry) .store)) ⌝ }
     {
         let _format: PhantomData<F> = PhantomData;
         Ok(self.table.bytes())

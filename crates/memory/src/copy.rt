@@ -1,11 +1,7 @@
 //! Copies.
 ghost use mathlib.Core.Path.{_≡_};
-ghost use mathlib.Core.Bool.{Bool, _&&_, _||_};
-ghost use Prim.Native.Nat.{ℕ, _+_, _*_, _<_, _≤_};
 ghost use denote.Ref.{now, name};
-ghost use lib.Dec.{eqb, leb};
-ghost use lib.ListN.{length};
-ghost use Rattle.plain.specs.Memory.{Gives, inside as lies-inside, may-carry, call-copy};
+ghost use Rattle.plain.specs.Memory.{Matches, may-carry, covered as is-covered, call-copy};
 ghost use Rattle.table.specs.Recorded.{recorded};
 ghost use Rattle.memory.specs.Of.{plain};
 use crate::memory::Memory;
@@ -47,7 +43,7 @@ impl<'t, F: Format> Test for Carriage<'t, F> as CarriageTest {
 
 // Whether a copy of n bytes may use the bytes at a capability's address; one of no bytes may.
 fn covered<S: Store>(store: &S, c: Capability, n: u32) -> bool
-    ensures { λ r. ⌜ r ≡ (eqb n 0 || (lies-inside c (c .address) n && (leb (8 * S·Store .origin (now (store .entry))) (c .address) && leb (c .address + n) (8 * (S·Store .origin (now (store .entry)) + length (S·Store .cells (now (store .entry)))))))) ⌝ }
+    ensures { λ r. ⌜ r ≡ is-covered (S·Store .origin (now (store .entry))) (S·Store .cells (now (store .entry))) c n ⌝ }
 {
     let first = store.first() as u64;
     let end = first + store.count() as u64;
@@ -60,9 +56,9 @@ impl<F: Format, S: Store> Memory<'_, F, S> {
     /// Bytes from the address of `from` to that of `to`, as if all were read first. Answers how many granules were carried
     /// with their tags.
     pub fn copy(&mut self, to: u32, from: u32, size: u32) -> Result<u64, Refusal>
-        ensures does { λ r. ⌜ Gives (call-copy (F·Format .meaning) (plain (S·Store .origin) (S·Store .cells) (now (self .entry))) to from size) r (plain (S·Store .origin) (S·Store .cells) (now (self .exit))) ⌝ }
+        ensures does { λ r. ⌜ Matches (call-copy (F·Format .meaning) (plain (S·Store .origin) (S·Store .cells) (now (self .entry))) to from size) r (plain (S·Store .origin) (S·Store .cells) (now (self .exit))) ⌝ }
         ensures named { λ _. ⌜ name (now (self .exit) .store) ≡ name (now (self .entry) .store) ⌝ }
-        ensures held { λ _. ⌜ S·Store .holds (now (now (self .exit) .store)) ≡ S·Store .holds (now (now (self .entry) .store)) ⌝ }
+        ensures held { λ _. ⌜ S·Store .kept (now (now (self .exit) .store)) ≡ S·Store .kept (now (now (self .entry) .store)) ⌝ }
     {
         if to >= SLOTS {
             return Err(Refusal::NoSuchSlot);

@@ -4,7 +4,7 @@ ghost use Prim.Native.Nat.{_<_};
 ghost use denote.Ref.{name};
 ghost use Rattle.std.specs.declared.result.Result.the-variants.{Ok};
 ghost use Rattle.capability.specs.Formats.{written};
-ghost use Rattle.plain.specs.Memory.{Gives, found, call-move, call-narrow, call-restrict};
+ghost use Rattle.plain.specs.Memory.{Matches, slot-count, found, call-move, call-narrow, call-restrict};
 ghost use Rattle.memory.specs.Slots.{filled};
 ghost use Rattle.memory.specs.Of.{plain};
 use crate::memory::Memory;
@@ -24,7 +24,7 @@ const ALL_RIGHTS: u32 = 63;
 
 // The slot becomes a capability, if the format carries it.
 fn put_capability<F: Format>(slots: &mut Slots, slot: u32, c: Capability) -> Result<u64, Refusal>
-    requires { ⌜ slot < 16 ⌝ }
+    requires { ⌜ slot < slot-count ⌝ }
     ensures outcome { λ r. ⌜ r ≡ found (written (F·Format .meaning) c) (λ _. Ok 0) ⌝ }
     ensures after { λ _. ⌜ now (slots .exit) .cells ≡ filled (now (slots .entry) .cells) slot (written (F·Format .meaning) c) ⌝ }
 {
@@ -36,9 +36,9 @@ fn put_capability<F: Format>(slots: &mut Slots, slot: u32, c: Capability) -> Res
 impl<F: Format, S: Store> Memory<'_, F, S> {
     /// The capability of `from`, with another address, into `to`. The system's word for it is move.
     pub fn move_to(&mut self, to: u32, from: u32, address: u32) -> Result<u64, Refusal>
-        ensures does { λ r. ⌜ Gives (call-move (F·Format .meaning) (plain (S·Store .origin) (S·Store .cells) (now (self .entry))) to from address) r (plain (S·Store .origin) (S·Store .cells) (now (self .exit))) ⌝ }
+        ensures does { λ r. ⌜ Matches (call-move (F·Format .meaning) (plain (S·Store .origin) (S·Store .cells) (now (self .entry))) to from address) r (plain (S·Store .origin) (S·Store .cells) (now (self .exit))) ⌝ }
         ensures named { λ _. ⌜ name (now (self .exit) .store) ≡ name (now (self .entry) .store) ⌝ }
-        ensures held { λ _. ⌜ S·Store .holds (now (now (self .exit) .store)) ≡ S·Store .holds (now (now (self .entry) .store)) ⌝ }
+        ensures held { λ _. ⌜ S·Store .kept (now (now (self .exit) .store)) ≡ S·Store .kept (now (now (self .entry) .store)) ⌝ }
     {
         let _format: PhantomData<F> = PhantomData;
         if to >= SLOTS {
@@ -62,9 +62,9 @@ impl<F: Format, S: Store> Memory<'_, F, S> {
 
     /// The capability of `from`, with bounds inside the old ones and its address at the new base, into `to`.
     pub fn narrow(&mut self, to: u32, from: u32, base: u32, length: u64) -> Result<u64, Refusal>
-        ensures does { λ r. ⌜ Gives (call-narrow (F·Format .meaning) (plain (S·Store .origin) (S·Store .cells) (now (self .entry))) to from base length) r (plain (S·Store .origin) (S·Store .cells) (now (self .exit))) ⌝ }
+        ensures does { λ r. ⌜ Matches (call-narrow (F·Format .meaning) (plain (S·Store .origin) (S·Store .cells) (now (self .entry))) to from base length) r (plain (S·Store .origin) (S·Store .cells) (now (self .exit))) ⌝ }
         ensures named { λ _. ⌜ name (now (self .exit) .store) ≡ name (now (self .entry) .store) ⌝ }
-        ensures held { λ _. ⌜ S·Store .holds (now (now (self .exit) .store)) ≡ S·Store .holds (now (now (self .entry) .store)) ⌝ }
+        ensures held { λ _. ⌜ S·Store .kept (now (now (self .exit) .store)) ≡ S·Store .kept (now (now (self .entry) .store)) ⌝ }
     {
         let _format: PhantomData<F> = PhantomData;
         if to >= SLOTS {
@@ -95,9 +95,9 @@ impl<F: Format, S: Store> Memory<'_, F, S> {
 
     /// The capability of `from`, with only those rights that are in the mask too, into `to`.
     pub fn restrict(&mut self, to: u32, from: u32, mask: u32) -> Result<u64, Refusal>
-        ensures does { λ r. ⌜ Gives (call-restrict (F·Format .meaning) (plain (S·Store .origin) (S·Store .cells) (now (self .entry))) to from mask) r (plain (S·Store .origin) (S·Store .cells) (now (self .exit))) ⌝ }
+        ensures does { λ r. ⌜ Matches (call-restrict (F·Format .meaning) (plain (S·Store .origin) (S·Store .cells) (now (self .entry))) to from mask) r (plain (S·Store .origin) (S·Store .cells) (now (self .exit))) ⌝ }
         ensures named { λ _. ⌜ name (now (self .exit) .store) ≡ name (now (self .entry) .store) ⌝ }
-        ensures held { λ _. ⌜ S·Store .holds (now (now (self .exit) .store)) ≡ S·Store .holds (now (now (self .entry) .store)) ⌝ }
+        ensures held { λ _. ⌜ S·Store .kept (now (now (self .exit) .store)) ≡ S·Store .kept (now (now (self .entry) .store)) ⌝ }
     {
         let _format: PhantomData<F> = PhantomData;
         if to >= SLOTS {

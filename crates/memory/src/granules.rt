@@ -1,7 +1,7 @@
 //! Capabilities put away and fetched.
 ghost use mathlib.Core.Path.{_≡_};
 ghost use denote.Ref.{name};
-ghost use Rattle.plain.specs.Memory.{Gives, may-put, call-fetch, call-put};
+ghost use Rattle.plain.specs.Memory.{Matches, may-put, call-fetch, call-put};
 ghost use Rattle.memory.specs.Of.{plain};
 use crate::memory::Memory;
 use crate::reads::SLOTS;
@@ -29,9 +29,9 @@ impl<F: Format, S: Store> Memory<'_, F, S> {
     /// The granule at the address of `through`, with its tag, into `to`, untagged if its word's block is condemned. Answers 1
     /// if the slot is then tagged, else 0.
     pub fn fetch(&mut self, to: u32, through: u32) -> Result<u64, Refusal>
-        ensures does { λ r. ⌜ Gives (call-fetch (F·Format .meaning) (plain (S·Store .origin) (S·Store .cells) (now (self .entry))) to through) r (plain (S·Store .origin) (S·Store .cells) (now (self .exit))) ⌝ }
+        ensures does { λ r. ⌜ Matches (call-fetch (F·Format .meaning) (plain (S·Store .origin) (S·Store .cells) (now (self .entry))) to through) r (plain (S·Store .origin) (S·Store .cells) (now (self .exit))) ⌝ }
         ensures named { λ _. ⌜ name (now (self .exit) .store) ≡ name (now (self .entry) .store) ⌝ }
-        ensures held { λ _. ⌜ S·Store .holds (now (now (self .exit) .store)) ≡ S·Store .holds (now (now (self .entry) .store)) ⌝ }
+        ensures held { λ _. ⌜ S·Store .kept (now (now (self .exit) .store)) ≡ S·Store .kept (now (now (self .entry) .store)) ⌝ }
     {
         let _format: PhantomData<F> = PhantomData;
         if to >= SLOTS {
@@ -53,9 +53,9 @@ impl<F: Format, S: Store> Memory<'_, F, S> {
 
     /// The word and the tag of `from` into the granule at the address of `through`.
     pub fn put(&mut self, through: u32, from: u32) -> Result<u64, Refusal>
-        ensures does { λ r. ⌜ Gives (call-put (F·Format .meaning) (plain (S·Store .origin) (S·Store .cells) (now (self .entry))) through from) r (plain (S·Store .origin) (S·Store .cells) (now (self .exit))) ⌝ }
+        ensures does { λ r. ⌜ Matches (call-put (F·Format .meaning) (plain (S·Store .origin) (S·Store .cells) (now (self .entry))) through from) r (plain (S·Store .origin) (S·Store .cells) (now (self .exit))) ⌝ }
         ensures named { λ _. ⌜ name (now (self .exit) .store) ≡ name (now (self .entry) .store) ⌝ }
-        ensures held { λ _. ⌜ S·Store .holds (now (now (self .exit) .store)) ≡ S·Store .holds (now (now (self .entry) .store)) ⌝ }
+        ensures held { λ _. ⌜ S·Store .kept (now (now (self .exit) .store)) ≡ S·Store .kept (now (now (self .entry) .store)) ⌝ }
     {
         let _format: PhantomData<F> = PhantomData;
         if through >= SLOTS {

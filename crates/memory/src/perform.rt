@@ -1,7 +1,7 @@
 //! Any call.
 ghost use mathlib.Core.Path.{_≡_};
 ghost use denote.Ref.{name};
-ghost use Rattle.plain.specs.Memory.{Gives};
+ghost use Rattle.plain.specs.Memory.{Matches};
 ghost use Rattle.plain.specs.Step.{step};
 ghost use Rattle.memory.specs.Of.{plain};
 use crate::memory::Memory;
@@ -14,9 +14,9 @@ use store::Store;
 impl<F: Format, S: Store> Memory<'_, F, S> {
     /// Makes a call: it answers and leaves what the plain memory does.
     pub fn perform(&mut self, call: Call) -> Result<u64, Refusal>
-        ensures does { λ r. ⌜ Gives (step (F·Format .meaning) (plain (S·Store .origin) (S·Store .cells) (now (self .entry))) call) r (plain (S·Store .origin) (S·Store .cells) (now (self .exit))) ⌝ }
+        ensures does { λ r. ⌜ Matches (step (F·Format .meaning) (plain (S·Store .origin) (S·Store .cells) (now (self .entry))) call) r (plain (S·Store .origin) (S·Store .cells) (now (self .exit))) ⌝ }
         ensures named { λ _. ⌜ name (now (self .exit) .store) ≡ name (now (self .entry) .store) ⌝ }
-        ensures held { λ _. ⌜ S·Store .holds (now (now (self .exit) .store)) ≡ S·Store .holds (now (now (self .entry) .store)) ⌝ }
+        ensures held { λ _. ⌜ S·Store .kept (now (now (self .exit) .store)) ≡ S·Store .kept (now (now (self .entry) .store)) ⌝ }
     {
         let _format: PhantomData<F> = PhantomData;
         match call {

@@ -1,14 +1,8 @@
 //! What the calls ask before they act.
 ghost use mathlib.Core.Path.{_≡_};
-ghost use mathlib.Core.Bool.{Bool, true, false, not, _&&_, _||_};
-ghost use Prim.Native.Nat.{ℕ, min, _+_, _-_, _*_, _/_, _%_, _<_, _≤_};
-ghost use lib.Dec.{eqb, leb};
-ghost use lib.ListN.{length, getD};
-ghost use Rattle.std.specs.Vec.{made};
-ghost use Rattle.std.specs.declared.result.Result.the-variants.{Ok, Err};
-ghost use Rattle.capability.specs.declared.refusal.Refusal.the-variants.{Untagged, Misaligned, OutOfBounds};
-ghost use Rattle.capability.specs.Formats.{reading};
-ghost use Rattle.plain.specs.Memory.{test, inside as lies-inside, usable as usable-count, is-width as width-allowed, word-condemned, spared as spared-tag, is-global};
+ghost use Prim.Native.Nat.{_<_};
+ghost use Rattle.plain.specs.Blocks.{lookup as place-of};
+ghost use Rattle.plain.specs.Memory.{slot-count, tagged-in, inside as lies-inside, usable as usable-count, is-width as width-allowed, place-condemned, word-condemned, spared as spared-tag, is-global, pointed as pointed-at};
 ghost use Rattle.table.specs.Recorded.{recorded};
 use crate::slots::Slots;
 use capability::format::Format;
@@ -16,6 +10,7 @@ use capability::refusal::Refusal;
 use capability::types::Capability;
 use capability::types::Right;
 use store::Store;
+use table::states;
 use table::table::Table;
 
 /// How many slots there are.
@@ -23,8 +18,8 @@ pub(crate) const SLOTS: u32 = 16;
 
 // The capability in a slot, which is to be used.
 pub(crate) fn tagged_in<F: Format>(slots: &Slots, a: u32) -> Result<Capability, Refusal>
-    requires { ⌜ a < 16 ⌝ }
-    ensures { λ r. ⌜ r ≡ test (getD (now (slots .entry) .cells) a (record { word = 0; tag = false }) .tag) Untagged (reading (F·Format .meaning) (getD (now (slots .entry) .cells) a (record { word = 0; tag = false }) .word)) ⌝ }
+    requires { ⌜ a < slot-count ⌝ }
+    ensures { λ r. ⌜ r ≡ tagged-in (F·Format .meaning) (now (slots .entry) .cells) a ⌝ }
 {
     let slot = slots.cells[a as usize];
     if !slot.tag {
@@ -55,12 +50,22 @@ pub(crate) fn usable<F: Format, S: Store>(store: &S) -> u32
     within.min(store.count() as u64) as u32
 }
 
+// Whether the block that holds a capability's base is condemned.
+fn block_condemned(table: &Table, c: Capability) -> bool
+    ensures { λ r. ⌜ r ≡ place-condemned (recorded (now (table .entry))) (place-of (recorded (now (table .entry))) c) ⌝ }
+{
+    match table.lookup(c) {
+        Some(place) => states::condemned(table.at(place).state),
+        None => false,
+    }
+}
+
 // Whether a word's block is condemned.
 pub(crate) fn condemned<F: Format>(table: &Table, word: u64) -> bool
     ensures { λ r. ⌜ r ≡ word-condemned (F·Format .meaning) (recorded (now (table .entry))) word ⌝ }
 {
     match F::read(word) {
-        Ok(c) => table.condemns(c),
+        Ok(c) => block_condemned(table, c),
         Err(_) => false,
     }
 }
@@ -84,7 +89,7 @@ pub(crate) fn global<F: Format>(word: u64) -> bool
 
 // The granule at the address of a capability.
 pub(crate) fn pointed<S: Store>(store: &S, c: Capability) -> Result<u32, Refusal>
-    ensures { λ r. ⌜ r ≡ test (eqb (c .address % 8) 0) Misaligned (test (lies-inside c (c .address) 8) OutOfBounds (Ok (c .address / 8 - S·Store .origin (now (store .entry))))) ⌝ }
+    ensures { λ r. ⌜ r ≡ pointed-at (S·Store .origin (now (store .entry))) c ⌝ }
 {
     if c.address % 8 != 0 {
         return Err(Refusal::Misaligned);

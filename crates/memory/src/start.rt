@@ -23,8 +23,8 @@ impl<'a, F: Format, S: Store> Memory<'a, F, S> {
     pub fn start(store: &'a mut S, serial: u32) -> Memory<'a, F, S>
         ensures starts { λ m. ⌜ plain (S·Store .origin) (S·Store .cells) m ≡ started (S·Store .origin (now (store .entry))) (length (S·Store .cells (now (store .entry)))) serial ⌝ }
         ensures safe { λ m. ⌜ ((h : List Call) → Safe (F·Format .meaning) (plain (S·Store .origin) (S·Store .cells) m) h) ⌝ }
-        ensures kept { λ m. ⌜ name (m .store) ≡ name (store .entry) ⌝ }
-        ensures held { λ m. ⌜ S·Store .holds (now (m .store)) ≡ S·Store .holds (now (store .entry)) ⌝ }
+        ensures named { λ m. ⌜ name (m .store) ≡ name (store .entry) ⌝ }
+        ensures held { λ m. ⌜ S·Store .kept (now (m .store)) ≡ S·Store .kept (now (store .entry)) ⌝ }
     {
         clear(store);
         Memory {

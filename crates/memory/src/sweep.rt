@@ -4,7 +4,7 @@ ghost use mathlib.Core.List.{map};
 ghost use Prim.Native.Nat.{_<_, _≤_};
 ghost use denote.Ref.{name};
 ghost use Rattle.bytes.specs.Bytes.{renewed};
-ghost use Rattle.plain.specs.Memory.{Gives, cursor-of, cleaned, swept, call-open, call-advance, call-close};
+ghost use Rattle.plain.specs.Memory.{Matches, cursor-of, cleaned, swept, call-open, call-advance, call-close};
 ghost use Rattle.table.specs.Recorded.{recorded};
 ghost use Rattle.memory.specs.Of.{plain};
 use crate::memory::Memory;
@@ -49,7 +49,7 @@ fn pass<F: Format, S: Store>(store: &mut S, table: &Table, low: u32, high: u32)
     requires { ⌜ low ≤ high ⌝ }
     ensures after { λ _. ⌜ S·Store .cells (now (store .exit)) ≡ renewed (swept (F·Format .meaning) (recorded (now (table .entry))) (S·Store .cells (now (store .entry)))) (S·Store .cells (now (store .entry))) low high ⌝ }
     ensures fixed { λ _. ⌜ S·Store .origin (now (store .exit)) ≡ S·Store .origin (now (store .entry)) ⌝ }
-    ensures held { λ _. ⌜ S·Store .holds (now (store .exit)) ≡ S·Store .holds (now (store .entry)) ⌝ }
+    ensures held { λ _. ⌜ S·Store .kept (now (store .exit)) ≡ S·Store .kept (now (store .entry)) ⌝ }
 {
     for i in low..high {
         let (word, old) = granule_at(store, i);
@@ -63,9 +63,9 @@ fn pass<F: Format, S: Store>(store: &mut S, table: &Table, low: u32, high: u32)
 impl<F: Format, S: Store> Memory<'_, F, S> {
     /// Freed blocks turn condemned, the slots of condemned blocks are untagged, and a sweep begins. Answers how many blocks.
     pub fn open(&mut self) -> Result<u64, Refusal>
-        ensures does { λ r. ⌜ Gives (call-open (F·Format .meaning) (plain (S·Store .origin) (S·Store .cells) (now (self .entry)))) r (plain (S·Store .origin) (S·Store .cells) (now (self .exit))) ⌝ }
+        ensures does { λ r. ⌜ Matches (call-open (F·Format .meaning) (plain (S·Store .origin) (S·Store .cells) (now (self .entry)))) r (plain (S·Store .origin) (S·Store .cells) (now (self .exit))) ⌝ }
         ensures named { λ _. ⌜ name (now (self .exit) .store) ≡ name (now (self .entry) .store) ⌝ }
-        ensures held { λ _. ⌜ S·Store .holds (now (now (self .exit) .store)) ≡ S·Store .holds (now (now (self .entry) .store)) ⌝ }
+        ensures held { λ _. ⌜ S·Store .kept (now (now (self .exit) .store)) ≡ S·Store .kept (now (now (self .entry) .store)) ⌝ }
     {
         let _format: PhantomData<F> = PhantomData;
         if let Sweep::Open(_) = self.sweep {
@@ -79,9 +79,9 @@ impl<F: Format, S: Store> Memory<'_, F, S> {
 
     /// The sweep passes the next granules, as many as asked for or as remain. Answers how many.
     pub fn advance(&mut self, count: u32) -> Result<u64, Refusal>
-        ensures does { λ r. ⌜ Gives (call-advance (F·Format .meaning) (plain (S·Store .origin) (S·Store .cells) (now (self .entry))) count) r (plain (S·Store .origin) (S·Store .cells) (now (self .exit))) ⌝ }
+        ensures does { λ r. ⌜ Matches (call-advance (F·Format .meaning) (plain (S·Store .origin) (S·Store .cells) (now (self .entry))) count) r (plain (S·Store .origin) (S·Store .cells) (now (self .exit))) ⌝ }
         ensures named { λ _. ⌜ name (now (self .exit) .store) ≡ name (now (self .entry) .store) ⌝ }
-        ensures held { λ _. ⌜ S·Store .holds (now (now (self .exit) .store)) ≡ S·Store .holds (now (now (self .entry) .store)) ⌝ }
+        ensures held { λ _. ⌜ S·Store .kept (now (now (self .exit) .store)) ≡ S·Store .kept (now (now (self .entry) .store)) ⌝ }
     {
         let cursor = cursor_in(self.sweep)?;
         let remaining = usable::<F, S>(self.store).saturating_sub(cursor);
@@ -94,9 +94,9 @@ impl<F: Format, S: Store> Memory<'_, F, S> {
 
     /// Condemned blocks leave the record, and the sweep ends. Answers their bytes.
     pub fn close(&mut self) -> Result<u64, Refusal>
-        ensures does { λ r. ⌜ Gives (call-close (F·Format .meaning) (plain (S·Store .origin) (S·Store .cells) (now (self .entry)))) r (plain (S·Store .origin) (S·Store .cells) (now (self .exit))) ⌝ }
+        ensures does { λ r. ⌜ Matches (call-close (F·Format .meaning) (plain (S·Store .origin) (S·Store .cells) (now (self .entry)))) r (plain (S·Store .origin) (S·Store .cells) (now (self .exit))) ⌝ }
         ensures named { λ _. ⌜ name (now (self .exit) .store) ≡ name (now (self .entry) .store) ⌝ }
-        ensures held { λ _. ⌜ S·Store .holds (now (now (self .exit) .store)) ≡ S·Store .holds (now (now (self .entry) .store)) ⌝ }
+        ensures held { λ _. ⌜ S·Store .kept (now (now (self .exit) .store)) ≡ S·Store .kept (now (now (self .entry) .store)) ⌝ }
     {
         let cursor = cursor_in(self.sweep)?;
         if cursor < usable::<F, S>(self.store) {

@@ -17,11 +17,11 @@ use Rattle.plain.specs.declared.types.Call.{Call}
 use Rattle.plain.specs.declared.types.Call.the-variants.{Allocate}
 use Rattle.plain.specs.declared.types.Slot.{Slot}
 use Rattle.plain.specs.declared.types.State.the-variants.{Live}
-use Rattle.plain.specs.Blocks.{Entry, apart-all}
+use Rattle.plain.specs.Blocks.{Entry, Mem, apart-all}
 use Rattle.plain.specs.Memory.{Plain, usable, with-block}
 use Rattle.plain.specs.Guarantee.{Place, in-slot, in-granule, at, after, Accepts, descent, Holds, Allocates, Frees, Opens, Closes, Block-of, Freed, Closed-after}
 use Rattle.plain.proofs.Facts.{chosen, set-was, listed-was}
-use Rattle.plain.proofs.Tables.{Mem, mem-push, push-mem, Tidy, tidy-push, room-apart}
+use Rattle.plain.proofs.Tables.{mem-push, push-mem, Tidy, tidy-push, room-apart}
 use Rattle.plain.proofs.Events.{same-answer, earlier, closed-freed, not-frees, not-opens, not-closes, kept, begun, status-kept}
 use Rattle.plain.proofs.Good.{same-capability, pair-of, Clean, whole, Lies, Standing, Found, Held, Good, Source, Next, stays, held-on}
 

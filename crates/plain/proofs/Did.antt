@@ -22,7 +22,7 @@ use Rattle.plain.specs.declared.types.Call.the-variants.{Allocate, Free, Move,
 use Rattle.plain.specs.declared.types.State.the-variants.{Freed}
 use Rattle.plain.specs.declared.types.Sweep.the-variants.{Shut}
 use Rattle.plain.specs.Blocks.{entry-at, is-live, is-condemned, in-state}
-use Rattle.plain.specs.Memory.{Plain, Outcome, refuse, accept, demand, given, usable, slot, tagged-in, inside, with-slot, with-blocks, with-cells, room, with-block, block-place, fetched, pointed, may-carry, covered, cursor-of, opened, cleaned, swept, passed}
+use Rattle.plain.specs.Memory.{Plain, Outcome, refuse, accept, demand, given, slot-count, usable, slot, tagged-in, inside, with-slot, with-blocks, with-cells, room, with-block, block-place, fetched, pointed, may-carry, covered, cursor-of, opened, cleaned, swept, passed}
 use Rattle.plain.specs.Step.{step}
 use Rattle.plain.specs.declared.types.Sweep.the-variants as sweeps
 
@@ -72,17 +72,17 @@ pub data Derives : Call → ℕ → ℕ → Capability → Capability → Type 0
 pub data Did (m : Meaning) (s : Plain) : Call → Outcome → Type 0 where
   refused : {c : Call} (e : Refusal) → Did m s c (refuse s e)
   looks : {c : Call} (n : ℕ) → Looks c → Did m s c (accept n s)
-  allots : {a size : ℕ} (unit x w : ℕ) → ltb a 16 ≡ true → okOr (room m (s .first) (s .cells) (s .blocks) unit size) NoRoom ≡ Ok x
+  allots : {a size : ℕ} (unit x w : ℕ) → ltb a slot-count ≡ true → okOr (room m (s .first) (s .cells) (s .blocks) unit (rounded size unit)) NoRoom ≡ Ok x
       → written m (over x (rounded size unit) all-rights) ≡ Ok w → Did m s (Allocate a size) (accept (s .next) (with-block s a x (rounded size unit) w))
   frees : {a : ℕ} (k : Capability) (i : ℕ) → block-place s k ≡ Ok i → is-live (entry-at (s .blocks) i .state) ≡ true
       → Did m s (Free a) (accept (entry-at (s .blocks) i .serial) (with-blocks s (set (s .blocks) i (in-state (entry-at (s .blocks) i) Freed))))
-  derives : {c : Call} {a b : ℕ} {k l : Capability} (w : ℕ) → Derives c a b k l → tagged-in m s b ≡ Ok k → written m l ≡ Ok w
+  derives : {c : Call} {a b : ℕ} {k l : Capability} (w : ℕ) → Derives c a b k l → tagged-in m (s .slots) b ≡ Ok k → written m l ≡ Ok w
       → Did m s c (accept 0 (with-slot s a (record { word = w; tag = true })))
   stores : {a n v : ℕ} (x : ℕ) → Did m s (Store a n v) (accept 0 (with-cells s (stored (s .first) (s .cells) x n v)))
-  fetches : {a b : ℕ} (n : ℕ) (k : Capability) (i : ℕ) → tagged-in m s b ≡ Ok k → pointed s k ≡ Ok i → Did m s (Fetch a b) (accept n (with-slot s a (fetched m s i)))
-  puts : {a b : ℕ} (k : Capability) (i : ℕ) → tagged-in m s a ≡ Ok k → pointed s k ≡ Ok i
+  fetches : {a b : ℕ} (n : ℕ) (k : Capability) (i : ℕ) → tagged-in m (s .slots) b ≡ Ok k → pointed (s .first) k ≡ Ok i → Did m s (Fetch a b) (accept n (with-slot s a (fetched m s i)))
+  puts : {a b : ℕ} (k : Capability) (i : ℕ) → tagged-in m (s .slots) a ≡ Ok k → pointed (s .first) k ≡ Ok i
       → Did m s (Put a b) (accept 0 (with-cells s (set (s .cells) i (slot s b .word, slot s b .tag))))
-  copies : {a b n : ℕ} (count : ℕ) (k l : Capability) → tagged-in m s a ≡ Ok k → tagged-in m s b ≡ Ok l → (covered s k n && covered s l n) ≡ true
+  copies : {a b n : ℕ} (count : ℕ) (k l : Capability) → tagged-in m (s .slots) a ≡ Ok k → tagged-in m (s .slots) b ≡ Ok l → (covered (s .first) (s .cells) k n && covered (s .first) (s .cells) l n) ≡ true
       → Did m s (Copy a b n) (accept count (with-cells s (copied (may-carry m (s .blocks) k l) (s .first) (s .cells) (k .address) (l .address) n)))
   opens : (n : ℕ) → Did m s Open (accept n (after-open m s))
   advances : {n : ℕ} (count cursor : ℕ) → cursor-of (s .sweep) ≡ Ok cursor → Did m s (Advance n) (accept count (after-advance m s cursor n))

@@ -21,7 +21,7 @@ use Rattle.capability.specs.declared.refusal.Refusal.the-variants.{Untagged, No
 use Rattle.capability.specs.declared.types.Capability.{Capability}
 use Rattle.capability.specs.declared.types.Right.{Right}
 use Rattle.capability.specs.declared.types.Right.the-variants.{LoadData, StoreData, LoadCapabilities, StoreCapabilities, Global, StoreLocal}
-use Rattle.capability.specs.Formats.{Meaning, over, rounded}
+use Rattle.capability.specs.Formats.{Meaning, over}
 use Rattle.capability.specs.Rights.{weight, includes}
 use Rattle.store.specs.Cells.{Cell, cell, listed, length-listed}
 use Rattle.store.proofs.Listed.{getD-listed}
@@ -57,28 +57,28 @@ chosen false v x y e = inr (refl, e)
 -- USED CAPABILITIES
 
 module _ (m : Meaning) (s : Plain) where
-  pub was-tagged : (a : ℕ) (k : Capability) → tagged-in m s a ≡ Ok k → (slot s a .tag ≡ true) × (m .capability (slot s a .word) ≡ Some k)
+  pub was-tagged : (a : ℕ) (k : Capability) → tagged-in m (s .slots) a ≡ Ok k → (slot s a .tag ≡ true) × (m .capability (slot s a .word) ≡ Some k)
   was-tagged a k e =
       let r = was-tested (slot s a .tag) Untagged (okOr (m .capability (slot s a .word)) NotCapability) k e in
       (r .0, was-some (m .capability (slot s a .word)) NotCapability k (r .1))
 
-  pub used : (a : ℕ) (k : Capability) → tagged-in m s a ≡ Ok k → in-use m s a ≡ k
+  pub used : (a : ℕ) (k : Capability) → tagged-in m (s .slots) a ≡ Ok k → in-use m s a ≡ k
   used a k e = ap (λ (o : Option Capability). valueOr o (over 0 0 0)) (was-tagged a k e .1)
 
 pub was-inside : (k : Capability) (x n : ℕ) → inside k x n ≡ true → (k .base ≤ x) × (x + n ≤ k .top)
 was-inside k x n e = let r = and-parts (leb (k .base) x) (leb (x + n) (k .top)) e in (leb-true _ _ (r .0), leb-true _ _ (r .1))
 
-pub was-pointed : (s : Plain) (k : Capability) (i : ℕ) → pointed s k ≡ Ok i → (k .base ≤ k .address) × (k .address + 8 ≤ k .top) × (granule-of s (k .address) ≡ i)
+pub was-pointed : (s : Plain) (k : Capability) (i : ℕ) → pointed (s .first) k ≡ Ok i → (k .base ≤ k .address) × (k .address + 8 ≤ k .top) × (granule-of (s .first) (k .address) ≡ i)
 was-pointed s k i e =
     let p = was-tested (eqb (k .address % 8) 0) Misaligned _ i e in
-    let q = was-tested (inside k (k .address) 8) OutOfBounds (Ok (granule-of s (k .address))) i (p .1) in
+    let q = was-tested (inside k (k .address) 8) OutOfBounds (Ok (granule-of (s .first) (k .address))) i (p .1) in
     let r = was-inside k (k .address) 8 (q .0) in
     (r .0, r .1, ok-ok _ _ (q .1))
 
-pub was-covered : (s : Plain) (k : Capability) (n : ℕ) → covered s k n ≡ true → 0 < n → (k .base ≤ k .address) × (k .address + n ≤ k .top)
+pub was-covered : (s : Plain) (k : Capability) (n : ℕ) → covered (s .first) (s .cells) k n ≡ true → 0 < n → (k .base ≤ k .address) × (k .address + n ≤ k .top)
 was-covered s k n e l =
     ⊎-elim (λ q. let z = eqb-true n 0 q in absurd (omega arith))
-    (λ q. was-inside k (k .address) n (and-parts (inside k (k .address) n) (in-store s (k .address) n) q .0))
+    (λ q. was-inside k (k .address) n (and-parts (inside k (k .address) n) (in-store (s .first) (s .cells) (k .address) n) q .0))
     (or-cases (eqb n 0) _ e)
 
 pub was-touched : (a n g : ℕ) → touched a n g ≡ true → (0 < n) × (8 * g < a + n)
@@ -90,14 +90,14 @@ was-open (Open x) n e = ap Open (ok-ok x n e)
 
 -- where a new block stands
 pub was-room : (m : Meaning) (f : ℕ) (cells : List Cell) (bs : List Entry) (unit size x : ℕ) → okOr (room m f cells bs unit size) NoRoom ≡ Ok x
-    → (8 * f ≤ x) × (x + rounded size unit ≤ 8 * (f + usable m f cells)) × (apart-all x (x + rounded size unit) bs ≡ true)
+    → (8 * f ≤ x) × (x + size ≤ 8 * (f + usable m f cells)) × (apart-all x (x + size) bs ≡ true)
 was-room m f cells bs unit size x e =
     let high : ℕ = 8 * (f + usable m f cells) in
-    let fits : ℕ → Bool = free-at bs (8 * f) high unit (rounded size unit) in
+    let fits : ℕ → Bool = free-at bs (8 * f) high unit size in
     let r = subst (Is-least (high + 1) fits) (was-some _ NoRoom x e) (least-is (high + 1) fits) .1 in
     let p = and-parts (eqb (x % unit) 0) _ r in
     let q = and-parts (leb (8 * f) x) _ (p .1) in
-    let t = and-parts (leb (x + rounded size unit) high) (apart-all x (x + rounded size unit) bs) (q .1) in
+    let t = and-parts (leb (x + size) high) (apart-all x (x + size) bs) (q .1) in
     (leb-true _ _ (q .0), leb-true _ _ (t .0), t .1)
 
 -- RIGHTS

@@ -19,10 +19,10 @@ use Rattle.plain.specs.declared.types.Slot.{Slot}
 use Rattle.plain.specs.declared.types.State.{State}
 use Rattle.plain.specs.declared.types.Sweep.{Sweep}
 use Rattle.plain.specs.declared.types.Sweep.the-variants.{Shut, Open}
-use Rattle.plain.specs.Blocks.{Entry, is-condemned}
+use Rattle.plain.specs.Blocks.{Entry, Mem, is-condemned}
 use Rattle.plain.specs.Memory.{Plain, usable, word-condemned}
 use Rattle.plain.specs.Guarantee.{Place, in-slot, in-granule, at, Within, after, descent, Allocates, Frees, Closes, Block-of, Freed, Closed-after}
-use Rattle.plain.proofs.Tables.{Mem, mem-map, map-mem, Spans, Tidy, restated, tidy-map, owner-spared}
+use Rattle.plain.proofs.Tables.{mem-map, map-mem, Spans, Tidy, restated, tidy-map, owner-spared}
 use Rattle.plain.proofs.Events.{earlier, Quiet, Status, status-kept}
 
 pub same-capability : (o : Option Capability) (k l : Capability) → o ≡ Some k → o ≡ Some l → k ≡ l

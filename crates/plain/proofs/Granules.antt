@@ -69,7 +69,7 @@ module _ (m : Meaning) (s : Plain) (h : List Call) (g : Good m s h (after m s h)
   shaped-cells cells e = record { first = g .shaped .first; granules = e ∙ g .shaped .granules; slots = g .shaped .slots }
 
   -- a capability in use has only bytes of usable granules
-  in-use-usable : (a : ℕ) (k : Capability) → tagged-in m (after m s h) a ≡ Ok k
+  in-use-usable : (a : ℕ) (k : Capability) → tagged-in m (after m s h .slots) a ≡ Ok k
       → (8 * s .first ≤ k .base) × (k .top ≤ 8 * (s .first + usable m (s .first) (s .cells)))
   in-use-usable a k e =
       let was = was-tagged m (after m s h) a k e in
@@ -96,16 +96,16 @@ module _ (m : Meaning) (s : Plain) (h : List Call) (g : Good m s h (after m s h)
             (chosen (touched x n (after m s h .first + i)) _ _ _ (listed-was _ _ i z))
 
     -- put
-    pub next-puts : (a b : ℕ) (k : Capability) (x : ℕ) → tagged-in m (after m s h) a ≡ Ok k → pointed (after m s h) k ≡ Ok x → Accepts m s h (Put a b) 0
+    pub next-puts : (a b : ℕ) (k : Capability) (x : ℕ) → tagged-in m (after m s h .slots) a ≡ Ok k → pointed (after m s h .first) k ≡ Ok x → Accepts m s h (Put a b) 0
         → Next m s h (Put a b) (with-cells (after m s h) (set (after m s h .cells) x (at (after m s h) (in-slot b))))
     next-puts a b k x e points acc =
         quietly m s h (Put a b) laws g _ (quiet-code m s h (Put a b) refl) refl refl (shaped-cells _ (length-set (after m s h .cells) x _)) sources
       where
-        was : (k .base ≤ k .address) × (k .address + 8 ≤ k .top) × (granule-of (after m s h) (k .address) ≡ x)
+        was : (k .base ≤ k .address) × (k .address + 8 ≤ k .top) × (granule-of (after m s h .first) (k .address) ≡ x)
         was = was-pointed (after m s h) k x points
 
         is : target m (after m s h) a ≡ x
-        is = ap (λ (y : Capability). granule-of (after m s h) (y .address)) (used m (after m s h) a k e) ∙ was .2
+        is = ap (λ (y : Capability). granule-of (after m s h .first) (y .address)) (used m (after m s h) a k e) ∙ was .2
 
         below : x < usable m (s .first) (s .cells)
         below =
@@ -128,8 +128,8 @@ module _ (m : Meaning) (s : Plain) (h : List Call) (g : Good m s h (after m s h)
             (set-was (0, false) (λ (y : Cell). y .1) refl (after m s h .cells) x i (at (after m s h) (in-slot b)) z)
 
     -- copy
-    module _ (a b n count : ℕ) (k l : Capability) (ea : tagged-in m (after m s h) a ≡ Ok k) (eb : tagged-in m (after m s h) b ≡ Ok l)
-        (covers : (covered (after m s h) k n && covered (after m s h) l n) ≡ true) (acc : Accepts m s h (Copy a b n) count) where
+    module _ (a b n count : ℕ) (k l : Capability) (ea : tagged-in m (after m s h .slots) a ≡ Ok k) (eb : tagged-in m (after m s h .slots) b ≡ Ok l)
+        (covers : (covered (after m s h .first) (after m s h .cells) k n && covered (after m s h .first) (after m s h .cells) l n) ≡ true) (acc : Accepts m s h (Copy a b n) count) where
       copy-gives : (i : ℕ) → gives m (after m s h) (Copy a b n) count (in-granule i) ≡ sends m (after m s h) n k l i
       copy-gives i =
           ap (λ (x : Capability). sends m (after m s h) n x (in-use m (after m s h) b) i) (used m (after m s h) a k ea)
@@ -138,7 +138,7 @@ module _ (m : Meaning) (s : Plain) (h : List Call) (g : Good m s h (after m s h)
       copy-below : (i : ℕ) → touched (k .address) n (after m s h .first + i) ≡ true → i < usable m (s .first) (s .cells)
       copy-below i e =
           let t = was-touched (k .address) n (after m s h .first + i) e in
-          let r = was-covered (after m s h) k n (and-parts (covered (after m s h) k n) (covered (after m s h) l n) covers .0) (t .0) in
+          let r = was-covered (after m s h) k n (and-parts (covered (after m s h .first) (after m s h .cells) k n) (covered (after m s h .first) (after m s h .cells) l n) covers .0) (t .0) in
           let f = g .shaped .first in
           touched-below (s .first) _ (k .address) n (k .top) i (omega (arith, t .1)) (r .1) (in-use-usable a k ea .1)
 

@@ -38,7 +38,7 @@ module _ (m : Meaning) (s : Plain) (laws : Lawful m) where
   next h c o eq (refused e) g = next-refused m s h g laws c e (ap (λ (x : Outcome). x .answer) eq)
   next h c o eq (looks n l) g = next-looks m s h g laws c n l (ap (λ (x : Outcome). x .answer) eq)
   next h c o eq (allots {a} {size} unit x w ha room wrote) g =
-      let was = was-room m (after m s h .first) (after m s h .cells) (after m s h .blocks) unit size x room in
+      let was = was-room m (after m s h .first) (after m s h .cells) (after m s h .blocks) unit (rounded size unit) x room in
       let f = g .shaped .first in
       let u = usable-same m s h g in
       next-allots m s h a size x (rounded size unit) w laws g (ap (λ (y : Outcome). y .answer) eq) (ap (λ (y : Outcome). y .after) eq) (ltb-true _ _ ha)
@@ -117,6 +117,8 @@ module _ (m : Meaning) (s : Plain) (laws : Lawful m) where
           let f = g .complete n k (r .born) (r .stands) in
           let b = g .standing (f .block) (f .recorded) in
           (omega (arith, f .start, b .low), omega (arith, f .end, b .high));
+      in-table = λ n k r. let f = g .complete n k (r .born) (r .stands) in (f .block, f .recorded, f .serial, f .start, f .end);
+      of-table = λ b hb. let e = g .standing b hb in (whole b, record { born = e .born; stands = e .stands }, refl, refl);
     }
 
   -- the invariant holds after every history, if it does of the state that it begins in

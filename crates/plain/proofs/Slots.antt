@@ -103,7 +103,7 @@ module _ (m : Meaning) (s : Plain) (h : List Call) (g : Good m s h (after m s h)
         (λ p z. stays m s h c _ g p refl (kept m s h c p n acc (looks-gives m (after m s h) l n p)) (λ k. k) z)
 
     -- move, narrow and restrict
-    pub next-derives : (c : Call) (a b : ℕ) (k l : Capability) (w : ℕ) → Derives c a b k l → tagged-in m (after m s h) b ≡ Ok k → written m l ≡ Ok w → Accepts m s h c 0
+    pub next-derives : (c : Call) (a b : ℕ) (k l : Capability) (w : ℕ) → Derives c a b k l → tagged-in m (after m s h .slots) b ≡ Ok k → written m l ≡ Ok w → Accepts m s h c 0
         → Next m s h c (with-slot (after m s h) a (record { word = w; tag = true }))
     next-derives c a b k l w d e wrote acc =
         quietly m s h c laws g _ (quiet-code m s h c (derived-code d)) refl refl (shaped-slots a _)
@@ -124,7 +124,7 @@ module _ (m : Meaning) (s : Plain) (h : List Call) (g : Good m s h (after m s h)
             })
 
     -- fetch
-    pub next-fetches : (a b n : ℕ) (k : Capability) (i : ℕ) → tagged-in m (after m s h) b ≡ Ok k → pointed (after m s h) k ≡ Ok i → Accepts m s h (Fetch a b) n
+    pub next-fetches : (a b n : ℕ) (k : Capability) (i : ℕ) → tagged-in m (after m s h .slots) b ≡ Ok k → pointed (after m s h .first) k ≡ Ok i → Accepts m s h (Fetch a b) n
         → Next m s h (Fetch a b) (with-slot (after m s h) a (fetched m (after m s h) i))
     next-fetches a b n k i e points acc =
         quietly m s h (Fetch a b) laws g _ (quiet-code m s h (Fetch a b) refl) refl refl (shaped-slots a _)
@@ -133,4 +133,4 @@ module _ (m : Meaning) (s : Plain) (h : List Call) (g : Good m s h (after m s h)
         (λ tagged. let f = spared-was m (after m s h .blocks) _ _ tagged in (f .0, less-same m _ _ refl, inr (f .1))))
       where
         is : target m (after m s h) b ≡ i
-        is = ap (λ (x : Capability). granule-of (after m s h) (x .address)) (used m (after m s h) b k e) ∙ was-pointed (after m s h) k i points .2
+        is = ap (λ (x : Capability). granule-of (after m s h .first) (x .address)) (used m (after m s h) b k e) ∙ was-pointed (after m s h) k i points .2

@@ -16,14 +16,9 @@ use Rattle.capability.specs.Formats.{Meaning}
 use Rattle.plain.specs.declared.types.State.{State}
 use Rattle.plain.specs.declared.types.State.the-variants.{Freed}
 use Rattle.plain.specs.Least.{Is-least}
-use Rattle.plain.specs.Blocks.{Entry, entry-at, holds, lookup, is-condemned, in-state, apart, apart-all}
+use Rattle.plain.specs.Blocks.{Entry, Mem, entry-at, holds, lookup, is-condemned, in-state, apart, apart-all}
 use Rattle.plain.specs.Memory.{place-condemned, capability-condemned, word-condemned}
 use Rattle.plain.proofs.Leasts.{least-is}
-
--- a block is in the table
-abbrev pub Mem : Entry → List Entry → Type 0
-Mem b [] = ⊥
-Mem b (x ∷ xs) = (b ≡ x) ⊎ Mem b xs
 
 pub mem-map : (f : Entry → Entry) (bs : List Entry) (y : Entry) → Mem y (map f bs) → (x : Entry) × Mem x bs × (y ≡ f x)
 mem-map f [] y h = absurd h

@@ -18,13 +18,13 @@ use Rattle.plain.specs.declared.types.Call.the-variants.{Free, Open, Close}
 use Rattle.plain.specs.declared.types.State.{State}
 use Rattle.plain.specs.declared.types.State.the-variants.{Freed}
 use Rattle.plain.specs.declared.types.Sweep.{Sweep}
-use Rattle.plain.specs.Blocks.{Entry, entry-at, lookup, is-live, is-condemned, in-state, opened-state}
+use Rattle.plain.specs.Blocks.{Entry, Mem, entry-at, lookup, is-live, is-condemned, in-state, opened-state}
 use Rattle.plain.specs.Memory.{Plain, usable, with-blocks, block-place, opened, cursor-of}
 use Rattle.plain.specs.Guarantee.{Place, in-slot, in-granule, at, after, Accepts, Block-of, Closed-after}
 use Rattle.plain.specs.Guarantee as guarantee
 use Rattle.plain.proofs.Did.{after-open, after-close}
 use Rattle.plain.proofs.Facts.{was-some, was-open, spared-was, cleaned-at}
-use Rattle.plain.proofs.Tables.{Mem, mem-kept, kept-mem, index-mem, Tidy, same-serial, tidy-kept, freeing, freed-by-serial, looked-up}
+use Rattle.plain.proofs.Tables.{mem-kept, kept-mem, index-mem, Tidy, same-serial, tidy-kept, freeing, freed-by-serial, looked-up}
 use Rattle.plain.proofs.Events.{same-answer, earlier, not-allocates, not-frees, not-opens, not-closes, kept, Status, status-kept, status-freed, status-opened, unopened, opened-since}
 use Rattle.plain.proofs.Good.{pair-of, Passed, Clean, less-same, Standing, Found, Held, Good, Source, Next, stays, held-on, remade}
 

@@ -1,6 +1,8 @@
 -- Blocks on record, and where a new one may stand.
+use mathlib.Core.Path.{_≡_}
 use mathlib.Core.Bool.{Bool, true, false, _&&_, _||_}
 use mathlib.Core.List.{List, [], _∷_}
+use mathlib.Core.Logic.{_⊎_}
 use Prim.Native.Nat.{ℕ, _+_, _-_, _%_}
 use lib.Dec.{ltb, leb, eqb}
 use lib.ListN.{length, getD}
@@ -16,6 +18,11 @@ pub record Entry : Type 0 where
   pub end : ℕ
   pub serial : ℕ
   pub state : State
+
+-- a block stands in the table
+abbrev pub Mem : Entry → List Entry → Type 0
+Mem b [] = ⊥
+Mem b (x ∷ xs) = (b ≡ x) ⊎ Mem b xs
 
 -- the block at a place of the table
 abbrev pub entry-at : List Entry → ℕ → Entry

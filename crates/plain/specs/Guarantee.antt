@@ -20,6 +20,7 @@ use Rattle.bytes.specs.Bytes.{touched}
 use Rattle.copying.specs.Copy.{carried, source}
 use Rattle.plain.specs.declared.types.Call.{Call}
 use Rattle.plain.specs.declared.types.Call.the-variants.{Allocate, Free, Move, Narrow, Restrict, Load, Store, Fetch, Put, Copy, Open, Advance, Close, Whose, Tally}
+use Rattle.plain.specs.Blocks.{Entry, Mem}
 use Rattle.plain.specs.Memory.{Plain, slot, started, granule-of, usable, may-carry}
 use Rattle.plain.specs.Step.{step}
 
@@ -44,7 +45,7 @@ in-use m s a = valueOr (m .capability (slot s a .word)) (over 0 0 0)
 
 -- the granule at the address of slot a's capability
 abbrev pub target : Meaning → Plain → ℕ → ℕ
-target m s a = granule-of s (in-use m s a .address)
+target m s a = granule-of (s .first) (in-use m s a .address)
 
 -- a copy of n bytes from slot b's address to slot a's carries a granule to granule i
 abbrev pub arrives : Meaning → Plain → ℕ → ℕ → ℕ → ℕ → Bool
@@ -207,6 +208,10 @@ module _ (m : Meaning) (s : Plain) where
     pub one-block : (n : ℕ) (k l : Capability) → Block-of n k h → Block-of n l h → Within k l
     -- the bytes of every block on record are bytes of usable granules
     pub in-usable : (n : ℕ) (k : Capability) → On-record n k h → (8 * s .first ≤ k .base) × (k .top ≤ 8 * (s .first + usable m (s .first) (s .cells)))
+    -- every block on record stands in the table, with its serial and its bytes
+    pub in-table : (n : ℕ) (k : Capability) → On-record n k h → (b : Entry) × Mem b (after h .blocks) × (b .serial ≡ n) × (b .start ≡ k .base) × (b .end ≡ k .top)
+    -- and every block of the table is on record
+    pub of-table : (b : Entry) → Mem b (after h .blocks) → (k : Capability) × On-record (b .serial) k h × (k .base ≡ b .start) × (k .top ≡ b .end)
 
 -- for every format that shows its laws, every store, every first serial and every history
 abbrev pub Always-safe : Type 0

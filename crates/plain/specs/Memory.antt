@@ -2,7 +2,7 @@
 use mathlib.Core.Path.{_≡_}
 use mathlib.Core.Bool.{Bool, true, false, cond, not, _&&_, _||_}
 use mathlib.Core.List.{List, [], _∷_, _++_, map}
-use Prim.Native.Nat.{ℕ, min, _+_, _*_, _-_, _/_, _%_}
+use Prim.Native.Nat.{ℕ, min, _+_, _*_, _-_, _/_, _%_, _^_, _<_, _≤_}
 use lib.Bits.{bitAnd}
 use lib.Dec.{ltb, leb, eqb}
 use lib.ListN.{length, getD, set, replicate}
@@ -28,10 +28,22 @@ use Rattle.plain.specs.declared.types.Sweep.{Sweep}
 use Rattle.plain.specs.declared.types.Sweep.the-variants.{Shut, Open}
 use Rattle.plain.specs.Blocks.{Entry, entry-at, lookup, size-of, is-live, is-freed, is-condemned, in-state, opened-state, is-whole, lowest-free}
 
+-- how many slots there are
+abbrev pub slot-count : ℕ
+slot-count = 16
+
+-- how many blocks can be on record at a time
+abbrev pub block-limit : ℕ
+block-limit = 64
+
+-- serials are below this
+abbrev pub serial-limit : ℕ
+serial-limit = 2 ^ 32
+
 pub record Plain : Type 0 where
-  -- the sixteen slots
+  -- the slots, slot-count of them
   pub slots : List Slot
-  -- the blocks on record, at most 64
+  -- the blocks on record, at most block-limit
   pub blocks : List Entry
   -- the next serial
   pub next : ℕ
@@ -49,7 +61,7 @@ pub record Outcome : Type 0 where
 -- a memory just started over a store: no block, the sweep shut, every slot and granule word 0, untagged
 abbrev pub started : ℕ → ℕ → ℕ → Plain
 started first count serial = record {
-  slots = replicate 16 (record { word = 0; tag = false });
+  slots = replicate slot-count (record { word = 0; tag = false });
   blocks = [];
   next = serial;
   sweep = Shut;
@@ -87,16 +99,26 @@ found (Err e) k = Err e
 abbrev pub usable : Meaning → ℕ → List Cell → ℕ
 usable m first cells = min (length cells) (m .span / 8 - first)
 
--- the granule, by its place in the store, that has the byte at address x
-abbrev pub granule-of : Plain → ℕ → ℕ
-granule-of s x = x / 8 - s .first
+-- it counts them: granule i is below it exactly where the store has it and it ends within the span
+abbrev pub Counts-usable : Type 0
+Counts-usable = (m : Meaning) (first : ℕ) (cells : List Cell) (i : ℕ)
+    → (i < usable m first cells → (i < length cells) × (8 * (first + i) + 8 ≤ m .span))
+    × ((i < length cells) → 8 * (first + i) + 8 ≤ m .span → i < usable m first cells)
+
+-- the granule, by its place in a store with this first granule, that has the byte at address x
+abbrev pub granule-of : ℕ → ℕ → ℕ
+granule-of first x = x / 8 - first
+
+-- slot a
+abbrev pub slot-in : List Slot → ℕ → Slot
+slot-in slots a = getD slots a (record { word = 0; tag = false })
 
 abbrev pub slot : Plain → ℕ → Slot
-slot s a = getD (s .slots) a (record { word = 0; tag = false })
+slot s a = slot-in (s .slots) a
 
 -- the capability in slot a, which is to be used: the slot is tagged, and its capability is what its word reads as
-abbrev pub tagged-in : Meaning → Plain → ℕ → Result Capability Refusal
-tagged-in m s a = test (slot s a .tag) Untagged (reading m (slot s a .word))
+abbrev pub tagged-in : Meaning → List Slot → ℕ → Result Capability Refusal
+tagged-in m slots a = test (slot-in slots a .tag) Untagged (reading m (slot-in slots a .word))
 
 -- n bytes from x on are all inside the bounds
 abbrev pub inside : Capability → ℕ → ℕ → Bool
@@ -114,10 +136,9 @@ with-cells s v = record { slots = s .slots; blocks = s .blocks; next = s .next; 
 
 -- ALLOCATE
 
--- where a new block of this size stands: at the lowest multiple of the unit where the rounded size is usable and overlaps no block
+-- where a new block of so many bytes stands: at the lowest multiple of the unit where they are usable and overlap no block
 abbrev pub room : Meaning → ℕ → List Cell → List Entry → ℕ → ℕ → Option ℕ
-room m first cells blocks unit size =
-    lowest-free blocks (8 * first) (8 * (first + usable m first cells)) unit (rounded size unit)
+room m first cells blocks unit bytes = lowest-free blocks (8 * first) (8 * (first + usable m first cells)) unit bytes
 
 -- the state once a block of so many bytes stands at x, its capability's word w in slot a: the block is live and has the next
 -- serial, which rises by one, and its granules are word 0, untagged
@@ -135,11 +156,11 @@ with-block s a x size w = record {
 -- last refusal is the format's and never comes: by the law of the unit the format carries this capability.
 abbrev pub call-allocate : Meaning → Plain → ℕ → ℕ → Outcome
 call-allocate m s a size =
-    demand (ltb a 16) NoSuchSlot s
+    demand (ltb a slot-count) NoSuchSlot s
     (given (unit-for m size) s (λ unit.
-    demand (ltb (length (s .blocks)) 64) TableFull s
-    (demand (ltb (s .next) 4294967296) SerialsExhausted s
-    (given (okOr (room m (s .first) (s .cells) (s .blocks) unit size) NoRoom) s (λ x.
+    demand (ltb (length (s .blocks)) block-limit) TableFull s
+    (demand (ltb (s .next) serial-limit) SerialsExhausted s
+    (given (okOr (room m (s .first) (s .cells) (s .blocks) unit (rounded size unit)) NoRoom) s (λ x.
     given (written m (over x (rounded size unit) all-rights)) s (λ w.
     accept (s .next) (with-block s a x (rounded size unit) w)))))))
 
@@ -152,8 +173,8 @@ block-place s c = okOr (lookup (s .blocks) c) NotLive
 -- the block turns freed, if it is live and the capability is the whole of it, whatever its address and rights
 abbrev pub call-free : Meaning → Plain → ℕ → Outcome
 call-free m s a =
-    demand (ltb a 16) NoSuchSlot s
-    (given (tagged-in m s a) s (λ c.
+    demand (ltb a slot-count) NoSuchSlot s
+    (given (tagged-in m (s .slots) a) s (λ c.
     given (block-place s c) s (λ i.
     demand (is-live (entry-at (s .blocks) i .state)) NotLive s
     (demand (is-whole c (entry-at (s .blocks) i)) NotWholeBlock s
@@ -162,8 +183,8 @@ call-free m s a =
 -- the serial of the block
 abbrev pub call-whose : Meaning → Plain → ℕ → Outcome
 call-whose m s a =
-    demand (ltb a 16) NoSuchSlot s
-    (given (tagged-in m s a) s (λ c.
+    demand (ltb a slot-count) NoSuchSlot s
+    (given (tagged-in m (s .slots) a) s (λ c.
     given (block-place s c) s (λ i.
     accept (entry-at (s .blocks) i .serial) s)))
 
@@ -180,28 +201,28 @@ becomes m s a c = given (written m c) s (λ w. accept 0 (with-slot s a (record {
 -- b's capability with address x
 abbrev pub call-move : Meaning → Plain → ℕ → ℕ → ℕ → Outcome
 call-move m s a b x =
-    demand (ltb a 16) NoSuchSlot s
-    (demand (ltb b 16) NoSuchSlot s
-    (given (tagged-in m s b) s (λ c.
+    demand (ltb a slot-count) NoSuchSlot s
+    (demand (ltb b slot-count) NoSuchSlot s
+    (given (tagged-in m (s .slots) b) s (λ c.
     becomes m s a (record { base = c .base; top = c .top; address = x; rights = c .rights }))))
 
 -- b's capability with base and address x and top x + n, all inside its bounds
 abbrev pub call-narrow : Meaning → Plain → ℕ → ℕ → ℕ → ℕ → Outcome
 call-narrow m s a b x n =
-    demand (ltb a 16) NoSuchSlot s
-    (demand (ltb b 16) NoSuchSlot s
+    demand (ltb a slot-count) NoSuchSlot s
+    (demand (ltb b slot-count) NoSuchSlot s
     (demand (leb 1 n) BadParameter s
-    (given (tagged-in m s b) s (λ c.
+    (given (tagged-in m (s .slots) b) s (λ c.
     demand (inside c x n) OutOfBounds s
     (becomes m s a (over x n (c .rights)))))))
 
 -- b's capability with only those rights that are also in the mask
 abbrev pub call-restrict : Meaning → Plain → ℕ → ℕ → ℕ → Outcome
 call-restrict m s a b mask =
-    demand (ltb a 16) NoSuchSlot s
-    (demand (ltb b 16) NoSuchSlot s
-    (demand (leb mask 63) BadParameter s
-    (given (tagged-in m s b) s (λ c.
+    demand (ltb a slot-count) NoSuchSlot s
+    (demand (ltb b slot-count) NoSuchSlot s
+    (demand (leb mask all-rights) BadParameter s
+    (given (tagged-in m (s .slots) b) s (λ c.
     becomes m s a (with-rights c (bitAnd (c .rights) mask))))))
 
 -- LOAD AND STORE
@@ -211,34 +232,36 @@ abbrev pub is-width : ℕ → Bool
 is-width n = eqb n 1 || (eqb n 2 || (eqb n 4 || eqb n 8))
 
 -- the address from which slot a may use n bytes with a right
-abbrev pub reached : Meaning → Plain → ℕ → Right → ℕ → Result ℕ Refusal
-reached m s a right n =
-    test (ltb a 16) NoSuchSlot
+abbrev pub access : Meaning → List Slot → ℕ → Right → ℕ → Result ℕ Refusal
+access m slots a right n =
+    test (ltb a slot-count) NoSuchSlot
     (test (is-width n) BadParameter
-    (found (tagged-in m s a) (λ c.
+    (found (tagged-in m slots a) (λ c.
     test (has right c) MissingRight
     (test (inside c (c .address) n) OutOfBounds
     (Ok (c .address))))))
 
 -- the n bytes at the address, the lowest first
 abbrev pub call-load : Meaning → Plain → ℕ → ℕ → Outcome
-call-load m s a n = given (reached m s a LoadData n) s (λ x. accept (number (byte (s .first) (s .cells)) x n) s)
+call-load m s a n = given (access m (s .slots) a LoadData n) s (λ x. accept (number (byte (s .first) (s .cells)) x n) s)
 
 -- the low n bytes of v are written at the address, and each touched granule is untagged
 abbrev pub call-store : Meaning → Plain → ℕ → ℕ → ℕ → Outcome
-call-store m s a n v = given (reached m s a StoreData n) s (λ x. accept 0 (with-cells s (stored (s .first) (s .cells) x n v)))
+call-store m s a n v = given (access m (s .slots) a StoreData n) s (λ x. accept 0 (with-cells s (stored (s .first) (s .cells) x n v)))
 
 -- FETCH AND PUT
 
--- a word's block is condemned
+-- there is a place, and the block at it is condemned
 abbrev pub place-condemned : List Entry → Option ℕ → Bool
 place-condemned bs None = false
 place-condemned bs (Some i) = is-condemned (entry-at bs i .state)
 
+-- there is a capability, and the block that holds its base is condemned
 abbrev pub capability-condemned : List Entry → Option Capability → Bool
 capability-condemned bs None = false
 capability-condemned bs (Some c) = place-condemned bs (lookup bs c)
 
+-- a word's block is condemned: that of the capability that the word reads as
 abbrev pub word-condemned : Meaning → List Entry → ℕ → Bool
 word-condemned m bs w = capability-condemned bs (m .capability w)
 
@@ -254,12 +277,12 @@ capability-global (Some c) = has Global c
 abbrev pub is-global : Meaning → ℕ → Bool
 is-global m w = capability-global (m .capability w)
 
--- the granule at the address of a capability, which is to be used with a right
-abbrev pub pointed : Plain → Capability → Result ℕ Refusal
-pointed s c =
+-- the granule at a capability's address: a multiple of 8, its eight bytes inside the bounds
+abbrev pub pointed : ℕ → Capability → Result ℕ Refusal
+pointed first c =
     test (eqb (c .address % 8) 0) Misaligned
     (test (inside c (c .address) 8) OutOfBounds
-    (Ok (granule-of s (c .address))))
+    (Ok (granule-of first (c .address))))
 
 abbrev pub truth : Bool → ℕ
 truth true = 1
@@ -271,11 +294,11 @@ fetched m s i = record { word = cell (s .cells) i .0; tag = spared m (s .blocks)
 
 abbrev pub call-fetch : Meaning → Plain → ℕ → ℕ → Outcome
 call-fetch m s a b =
-    demand (ltb a 16) NoSuchSlot s
-    (demand (ltb b 16) NoSuchSlot s
-    (given (tagged-in m s b) s (λ c.
+    demand (ltb a slot-count) NoSuchSlot s
+    (demand (ltb b slot-count) NoSuchSlot s
+    (given (tagged-in m (s .slots) b) s (λ c.
     demand (has LoadCapabilities c) MissingRight s
-    (given (pointed s c) s (λ i.
+    (given (pointed (s .first) c) s (λ i.
     accept (truth (fetched m s i .tag)) (with-slot s a (fetched m s i)))))))
 
 -- a capability that is tagged and not global may be stored only by the right to store local ones
@@ -285,11 +308,11 @@ may-put m c v = not (v .tag) || (is-global m (v .word) || has StoreLocal c)
 -- b's word and tag go to the granule at a's address
 abbrev pub call-put : Meaning → Plain → ℕ → ℕ → Outcome
 call-put m s a b =
-    demand (ltb a 16) NoSuchSlot s
-    (demand (ltb b 16) NoSuchSlot s
-    (given (tagged-in m s a) s (λ c.
+    demand (ltb a slot-count) NoSuchSlot s
+    (demand (ltb b slot-count) NoSuchSlot s
+    (given (tagged-in m (s .slots) a) s (λ c.
     demand (has StoreCapabilities c && may-put m c (slot s b)) MissingRight s
-    (given (pointed s c) s (λ i.
+    (given (pointed (s .first) c) s (λ i.
     accept 0 (with-cells s (set (s .cells) i (slot s b .word, slot s b .tag))))))))
 
 -- COPY
@@ -301,22 +324,22 @@ may-carry m bs ca cb w =
     has LoadCapabilities cb && (has StoreCapabilities ca && ((is-global m w || has StoreLocal ca) && not (word-condemned m bs w)))
 
 -- n bytes from x on are bytes of the store. This is so of the bytes of every capability that a program has.
-abbrev pub in-store : Plain → ℕ → ℕ → Bool
-in-store s x n = leb (8 * s .first) x && leb (x + n) (8 * (s .first + length (s .cells)))
+abbrev pub in-store : ℕ → List Cell → ℕ → ℕ → Bool
+in-store first cells x n = leb (8 * first) x && leb (x + n) (8 * (first + length cells))
 
 -- a range of n bytes at a capability's address may be used; a range of none may, whatever the address
-abbrev pub covered : Plain → Capability → ℕ → Bool
-covered s c n = eqb n 0 || (inside c (c .address) n && in-store s (c .address) n)
+abbrev pub covered : ℕ → List Cell → Capability → ℕ → Bool
+covered first cells c n = eqb n 0 || (inside c (c .address) n && in-store first cells (c .address) n)
 
 -- n bytes go from b's address to a's; the answer is the number of granules carried
 abbrev pub call-copy : Meaning → Plain → ℕ → ℕ → ℕ → Outcome
 call-copy m s a b n =
-    demand (ltb a 16) NoSuchSlot s
-    (demand (ltb b 16) NoSuchSlot s
-    (given (tagged-in m s a) s (λ ca.
-    given (tagged-in m s b) s (λ cb.
+    demand (ltb a slot-count) NoSuchSlot s
+    (demand (ltb b slot-count) NoSuchSlot s
+    (given (tagged-in m (s .slots) a) s (λ ca.
+    given (tagged-in m (s .slots) b) s (λ cb.
     demand (has StoreData ca && has LoadData cb) MissingRight s
-    (demand (covered s ca n && covered s cb n) OutOfBounds s
+    (demand (covered (s .first) (s .cells) ca n && covered (s .first) (s .cells) cb n) OutOfBounds s
     (accept (carried-count (may-carry m (s .blocks) ca cb) (s .first) (s .cells) (ca .address) (cb .address) n)
     (with-cells s (copied (may-carry m (s .blocks) ca cb) (s .first) (s .cells) (ca .address) (cb .address) n))))))))
 
@@ -390,5 +413,5 @@ call-close m s =
     })))
 
 -- a call that answered r and left t did what is defined
-abbrev pub Gives : Outcome → Result ℕ Refusal → Plain → Type 0
-Gives o r t = _≡_ {A = Outcome} (record { answer = r; after = t }) o
+abbrev pub Matches : Outcome → Result ℕ Refusal → Plain → Type 0
+Matches o r t = _≡_ {A = Outcome} (record { answer = r; after = t }) o

@@ -1,10 +1,9 @@
 //! The interface of a store: granules of eight bytes, each with a tag.
 ghost use mathlib.Core.Path.{_≡_};
 ghost use mathlib.Core.List.{List};
-ghost use base.Fml.{GName};
 ghost use lib.ListN.{length, set};
 ghost use Prim.Native.Nat.{ℕ, _≤_};
-ghost use Rattle.store.specs.Cells.{Cell, cell, within};
+ghost use Rattle.store.specs.Cells.{Cell, Kept, cell, within};
 use capability::refusal::Refusal;
 
 /// Granule i is the eight bytes at address 8·(first + i), the lowest first in its word.
@@ -15,8 +14,8 @@ pub trait Store {
     /// and the word and the tag of each granule.
     ghost cells: { Self → List Cell };
 
-    /// The references that it holds, by which whoever lent its buffers follows them.
-    ghost holds: { Self → List GName };
+    /// What no call changes: the references that it holds, and what is behind them besides the granules.
+    ghost kept: { Self → Kept };
 
     /// It has at most 8,192 granules.
     ghost short: { (s : Self) → length (cells s) ≤ 8192 };
@@ -38,5 +37,5 @@ pub trait Store {
         ensures outcome { λ r. ⌜ r ≡ within (cells (now (self .entry))) i tt ⌝ }
         ensures after { λ _. ⌜ cells (now (self .exit)) ≡ set (cells (now (self .entry))) i (word, tag) ⌝ }
         ensures fixed { λ _. ⌜ origin (now (self .exit)) ≡ origin (now (self .entry)) ⌝ }
-        ensures held { λ _. ⌜ holds (now (self .exit)) ≡ holds (now (self .entry)) ⌝ };
+        ensures held { λ _. ⌜ kept (now (self .exit)) ≡ kept (now (self .entry)) ⌝ };
 }

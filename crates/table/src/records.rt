@@ -10,6 +10,7 @@ ghost use Rattle.std.specs.declared.result.Result.the-variants.{Ok, Err};
 ghost use Rattle.std.specs.shelf.Lists.{sumBy};
 ghost use Rattle.capability.specs.declared.refusal.Refusal.the-variants.{TableFull};
 ghost use Rattle.plain.specs.Blocks.{entry-at, holds, lookup as place-of, size-of, lowest-free};
+ghost use Rattle.plain.specs.Memory.{block-limit};
 ghost use Rattle.table.specs.Recorded.{entry, recorded};
 use crate::block::Block;
 use crate::search::lowest_start;
@@ -61,15 +62,15 @@ impl Table {
 
     /// Whether there are 64 blocks already.
     pub fn is_full(&self) -> bool
-        ensures { λ r. ⌜ r ≡ not (ltb (length (recorded (now (self .entry)))) 64) ⌝ }
+        ensures { λ r. ⌜ r ≡ not (ltb (length (recorded (now (self .entry)))) block-limit) ⌝ }
     {
         self.used >= BLOCKS
     }
 
     /// Puts a block on record.
     pub fn add(&mut self, block: Block) -> Result<(), Refusal>
-        ensures outcome { λ r. ⌜ r ≡ cond (ltb (length (recorded (now (self .entry)))) 64) (Ok tt) (Err TableFull) ⌝ }
-        ensures after { λ _. ⌜ recorded (now (self .exit)) ≡ cond (ltb (length (recorded (now (self .entry)))) 64) (recorded (now (self .entry)) ++ (entry block ∷ [])) (recorded (now (self .entry))) ⌝ }
+        ensures outcome { λ r. ⌜ r ≡ cond (ltb (length (recorded (now (self .entry)))) block-limit) (Ok tt) (Err TableFull) ⌝ }
+        ensures after { λ _. ⌜ recorded (now (self .exit)) ≡ cond (ltb (length (recorded (now (self .entry)))) block-limit) (recorded (now (self .entry)) ++ (entry block ∷ [])) (recorded (now (self .entry))) ⌝ }
     {
         let used = self.used;
         if used >= BLOCKS {

@@ -6,12 +6,11 @@ ghost use Prim.Native.Nat.{ℕ, _<_, _≤_};
 ghost use lib.ListN.{length, set};
 ghost use Rattle.std.specs.shelf.Lists.{countBy, kept-by, sumBy};
 ghost use Rattle.plain.specs.declared.types.State.the-variants.{Freed};
-ghost use Rattle.plain.specs.Blocks.{entry-at, lookup as place-of, size-of, is-freed, is-condemned, in-state, opened-state};
-ghost use Rattle.plain.specs.Memory.{place-condemned, opened};
+ghost use Rattle.plain.specs.Blocks.{entry-at, size-of, is-freed, is-condemned, in-state, opened-state};
+ghost use Rattle.plain.specs.Memory.{opened};
 ghost use Rattle.table.specs.Recorded.{entry, recorded};
 use crate::block::Block;
 use crate::table::Table;
-use capability::types::Capability;
 use plain::types::State;
 
 fn freed(state: State) -> bool
@@ -24,7 +23,8 @@ fn freed(state: State) -> bool
     }
 }
 
-fn condemned(state: State) -> bool
+/// Whether a block in this state is condemned.
+pub fn condemned(state: State) -> bool
     ensures { λ r. ⌜ r ≡ is-condemned state ⌝ }
 {
     match state {
@@ -103,16 +103,6 @@ impl Table {
         ensures { λ _. ⌜ recorded (now (self .exit)) ≡ set (recorded (now (self .entry))) place (in-state (entry-at (recorded (now (self .entry))) place) Freed) ⌝ }
     {
         release(&mut self.blocks, place);
-    }
-
-    /// Whether the block of a capability is condemned.
-    pub fn condemns(&self, c: Capability) -> bool
-        ensures { λ r. ⌜ r ≡ place-condemned (recorded (now (self .entry))) (place-of (recorded (now (self .entry))) c) ⌝ }
-    {
-        match self.lookup(c) {
-            Some(place) => condemned(self.at(place).state),
-            None => false,
-        }
     }
 
     /// Freed blocks turn condemned; answers how many.

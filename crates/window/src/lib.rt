@@ -16,7 +16,10 @@ pub impl<'a, S: Store> Store for Window<'a, S> as WindowStore {
 
     ghost cells = { λ s. S·Store .cells (now (s .below)) };
 
-    ghost holds = { λ s. name (s .below) ∷ S·Store .holds (now (s .below)) };
+    ghost kept = { λ s. record {
+      references = name (s .below) ∷ S·Store .kept (now (s .below)) .references;
+      rest = S·Store .origin (now (s .below)) ∷ S·Store .kept (now (s .below)) .rest;
+    } };
 
     ghost short = { λ s. S·Store .short (now (s .below)) };
 

@@ -1,11 +1,10 @@
 //! The word store: a buffer of granule records, a word and a mark each.
 ghost use mathlib.Core.Path.{_≡_};
-ghost use mathlib.Core.List.{List, [], _∷_};
 ghost use denote.Ref.{now, name};
 ghost use lib.ListN.{length, set};
 ghost use Prim.Native.Nat.{ℕ};
 ghost use Rattle.store.specs.Cells.{within};
-ghost use Rattle.words.specs.Records.{recordCells, records-short, recordsAfter};
+ghost use Rattle.words.specs.Records.{recordCells, records-short, recordsKept, recordsAfter};
 use capability::refusal::Refusal;
 use store::Store;
 
@@ -33,7 +32,7 @@ pub impl<'a> Store for Words<'a> as WordsStore {
 
     ghost cells = { λ s. recordCells (now (s .granules)) };
 
-    ghost holds = { λ s. name (s .granules) ∷ [] };
+    ghost kept = { λ s. recordsKept (name (s .granules)) (now (s .granules)) };
 
     ghost short = { λ s. records-short (now (s .granules)) };
 
@@ -61,7 +60,7 @@ pub impl<'a> Store for Words<'a> as WordsStore {
         ensures outcome { λ r. ⌜ r ≡ within (recordCells (now (now (self .entry) .granules))) i tt ⌝ }
         ensures after { λ _. ⌜ recordCells (now (now (self .exit) .granules)) ≡ set (recordCells (now (now (self .entry) .granules))) i (word, tag) ⌝ }
         ensures fixed { λ _. ⌜ _≡_ {A = ℕ} 0 0 ⌝ }
-        ensures held { λ _. ⌜ (name (now (self .exit) .granules) ∷ []) ≡ (name (now (self .entry) .granules) ∷ []) ⌝ }
+        ensures held { λ _. ⌜ recordsKept (name (now (self .exit) .granules)) (now (now (self .exit) .granules)) ≡ recordsKept (name (now (self .entry) .granules)) (now (now (self .entry) .granules)) ⌝ }
         ensures records { λ _. ⌜ now (now (self .exit) .granules) ≡ recordsAfter (now (now (self .entry) .granules)) i word tag ⌝ }
     {
         if i < self.count() {

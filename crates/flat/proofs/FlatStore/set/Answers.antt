@@ -5,8 +5,8 @@ use Prim.Native.Nat.{ℕ, _<_, _≤_}
 use lib.ListN.{length}
 use Rattle.std.proofs.shelf.Lists.{set-past}
 use Rattle.std.proofs.shelf.Tests.{cond-below, cond-above}
-use Rattle.flat.specs.Flat.{fitting, flatCells, withWord}
-use Rattle.flat.proofs.Granules.{length-flat, flat-set}
+use Rattle.flat.specs.Flat.{fitting, flatCells, flatKept, withWord}
+use Rattle.flat.proofs.Granules.{length-flat, flat-set, flat-kept}
 use Rattle.flat.proofs.FlatStore.set.Needs as need
 
 pub put-word-requires : need.put-word-requires
@@ -29,7 +29,9 @@ returns-then-i-count c =
           ∙ ap (λ t. flatCells (withWord bytes (c .args .i) (c .args .word)) t) (c .put-tag .ensures)
           ∙ flat-set bytes tags (c .args .i) (c .args .word) (c .args .tag) h (omega arith);
       fixed = refl;
-      held = refl;
+      held = ap (λ d. flatKept (c .args .self .now .«data» .name) (c .args .self .now .tags .name) d (c .put-tag .last .tags)) (c .put-word .ensures)
+          ∙ ap (λ t. flatKept (c .args .self .now .«data» .name) (c .args .self .now .tags .name) (withWord bytes (c .args .i) (c .args .word)) t) (c .put-tag .ensures)
+          ∙ flat-kept _ _ bytes tags (c .args .i) (c .args .word) (c .args .tag) h;
       bytes = c .put-word .ensures ∙ cond-below _ _ _ _ h;
       bits = c .put-tag .ensures ∙ cond-below _ _ _ _ h;
     }

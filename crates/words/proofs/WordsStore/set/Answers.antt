@@ -7,7 +7,7 @@ use Rattle.std.proofs.shelf.Lists.{set-past}
 use Rattle.std.proofs.shelf.Tests.{cond-below, cond-above}
 use Rattle.words.specs.declared.Granule.{Granule}
 use Rattle.words.specs.Records.{fitting, recordCells, recordOf}
-use Rattle.words.proofs.Granules.{length-records, records-set}
+use Rattle.words.proofs.Granules.{length-records, records-set, records-kept}
 use Rattle.words.proofs.WordsStore.set.Needs as need
 
 pub index-self-i : need.index-self-i
@@ -25,7 +25,7 @@ returns-then-i-count c =
       outcome = cond-below _ _ _ _ b;
       after = ap recordCells written ∙ records-set gs (c .args .i) (c .args .word) (c .args .tag) (omega arith);
       fixed = refl;
-      held = refl;
+      held = records-kept (c .args .self .now .granules .name) gs (c .args .i) _ h;
       records = written ∙ cond-below _ _ _ _ h;
     }
 

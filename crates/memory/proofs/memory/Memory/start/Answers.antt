@@ -7,6 +7,6 @@ pub returns : need.returns
 returns g c = record {
   starts = search needs;
   safe = λ h. safe-start (g .F·Format .meaning) (g .F·Format·met .lawful) _ (g .S·Store .origin (c .args .store .now)) (length (g .S·Store .cells (c .args .store .now))) (c .args .serial) (search needs) h;
-  kept = search needs;
+  named = search needs;
   held = search needs;
 }
