@@ -6,7 +6,6 @@ ghost use Rattle.plain.specs.Memory.{Matches, may_put, call_fetch, call_put};
 ghost use Rattle.table.specs.Recorded.{recorded};
 ghost use Rattle.slots.specs.Parts.{made_of};
 
-use stored_bytes::store_bytes::granule_at;
 use capability::format::Format;
 use capability::refusal::Refusal;
 use capability::types::{Capability, Right};
@@ -14,6 +13,7 @@ use plain::types::Slot;
 use slots::reads::{SLOTS, global, pointed, spared, tagged_in};
 use slots::slots::Slots;
 use store::Store;
+use stored_bytes::store_bytes::granule_at;
 use table::table::Table;
 
 // Whether a slot's word and tag may be stored through a capability: what is tagged and not global needs a right of its own.

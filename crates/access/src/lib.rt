@@ -1,4 +1,6 @@
 //! Loads, stores, fetch and put: calls that reach one place of the store through a capability.
+#![tactic(auto)]
+
 mod granules;
 mod numbers;
 

@@ -5,13 +5,13 @@ ghost use Rattle.plain.specs.Blocks.{Entry};
 ghost use Rattle.plain.specs.Memory.{Matches, access, call_load, call_store};
 ghost use Rattle.slots.specs.Parts.{made_of};
 
-use stored_bytes::store_bytes::{number_at, put_number};
 use capability::format::Format;
 use capability::refusal::Refusal;
 use capability::types::Right;
 use slots::reads::{SLOTS, inside, is_width, tagged_in};
 use slots::slots::Slots;
 use store::Store;
+use stored_bytes::store_bytes::{number_at, put_number};
 
 // The address from which a slot may use so many bytes with a right.
 fn accessed<F: Format>(slots: &Slots, a: u32, right: Right, width: u32) -> Result<u32, Refusal>

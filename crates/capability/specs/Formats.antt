@@ -1,5 +1,5 @@
 -- What a format means, and the laws that every format shows.
-use Rattle.std.specs.Prelude.{◌≡◌, ℕ, ◌+◌, ◌-◌, ◌*◌, ◌/◌, ◌^◌, ◌<◌, ◌≤◌, Bool, true, cond, ◌&&◌, is_some, Some, None, Ok, Err, Option, Result, nat_le}
+use Rattle.std.specs.Prelude.{◌≡◌, ℕ, ◌+◌, ◌-◌, ◌*◌, ◌/◌, ◌^◌, ◌<◌, ◌≤◌, true, cond, ◌&&◌, is_some, Some, Ok, Err, Option, Result, nat_le}
 use Rattle.std.specs.Option.{ok_or}
 use Rattle.capability.specs.declared.refusal.Refusal.{Refusal}
 use Rattle.capability.specs.declared.refusal.Refusal.TheVariants.{BadParameter, NotCarried, NotCapability}

@@ -1,4 +1,6 @@
 //! Capabilities, the refusals of the whole product, and the interface of a format.
+#![tactic(auto)]
+
 pub mod format;
 pub mod refusal;
 pub mod types;

@@ -1,4 +1,6 @@
 //! Copies through capabilities, which carry tags where they may.
+#![tactic(auto)]
+
 ghost use Rattle.std.specs.Prelude.{◌≡◌, ℕ};
 ghost use Rattle.plain.specs.declared.types.Sweep.{Sweep};
 ghost use Rattle.plain.specs.Memory.{Matches, may_carry, covered as is-covered, call_copy};

@@ -1,4 +1,6 @@
 //! Answers many traces: each follows a title line that begins with `#`.
+#![tactic(auto)]
+
 ghost use Rattle.std.specs.Prelude.{◌<◌, ◌≤◌, length};
 
 use std::io;

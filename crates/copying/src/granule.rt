@@ -5,9 +5,9 @@ ghost use Rattle.stored_bytes.specs.Bytes.{number, byte};
 ghost use Rattle.copying.specs.Copy.{byte_after, carried, source, arriving};
 
 use crate::Test;
+use store::Store;
 use stored_bytes::store_bytes::granule_at;
 use stored_bytes::word_bytes::{merge, slide};
-use store::Store;
 
 // The eight bytes from byte r of a granule on.
 fn assemble<S: Store>(store: &S, source: u32, r: u32) -> u64

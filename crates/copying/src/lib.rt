@@ -1,4 +1,6 @@
 //! A copy of bytes over any store, as if all were read first.
+#![tactic(auto)]
+
 ghost use Rattle.std.specs.Prelude.{◌≡◌, ℕ, ◌+◌, ◌*◌, ◌<◌, ◌≤◌, Bool, length};
 ghost use Rattle.copying.specs.Copy.{copied, carried_count};
 

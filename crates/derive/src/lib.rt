@@ -1,4 +1,6 @@
 //! Capabilities made from others.
+#![tactic(auto)]
+
 ghost use Rattle.std.specs.Prelude.{◌≡◌, ℕ, ◌<◌, List, Ok};
 ghost use Rattle.capability.specs.Formats.{written};
 ghost use Rattle.store.specs.Cells.{Cell};

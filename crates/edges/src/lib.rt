@@ -1,5 +1,6 @@
 //! What no trace reaches, tried by tests: the last serial, a store asked for a granule that it has not, words that are no
 //! capability, and an input that is too long.
+#![tactic(auto)]
 
 #[cfg(test)]
 mod tests {

@@ -1,4 +1,6 @@
 //! The exact format: a word holds every bound whole.
+#![tactic(auto)]
+
 ghost use Rattle.std.specs.Prelude.{◌≡◌};
 ghost use Rattle.exact.specs.Exact.{exact, carries};
 ghost use Rattle.exact.specs.Laws;

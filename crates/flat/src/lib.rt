@@ -1,4 +1,6 @@
 //! The flat store: a data buffer, eight bytes to a granule, and a tag buffer, one bit to a granule.
+#![tactic(auto)]
+
 ghost use Rattle.std.specs.Prelude.{◌≡◌, ℕ, length, slice_set};
 ghost use Rattle.store.specs.Cells.{within};
 ghost use Rattle.flat.specs.Flat.{flat_cells, flat_short, flat_kept, data_after, tags_after};

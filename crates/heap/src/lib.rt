@@ -1,4 +1,6 @@
 //! Blocks allocated, freed and asked for.
+#![tactic(auto)]
+
 ghost use Rattle.std.specs.Prelude.{◌≡◌, ℕ, ◌+◌, ◌%◌, ◌<◌, ◌≤◌, List, IfOk};
 ghost use Rattle.std.specs.Option.{ok_or};
 ghost use Rattle.capability.specs.declared.refusal.Refusal.TheVariants.{NoRoom};
@@ -9,7 +11,6 @@ ghost use Rattle.plain.specs.Memory.{Matches, room, call_allocate, call_free, ca
 ghost use Rattle.table.specs.Recorded.{entry, recorded};
 ghost use Rattle.slots.specs.Parts.{made_of};
 
-use stored_bytes::store_bytes::blank;
 use capability::format::Format;
 use capability::refusal::Refusal;
 use capability::types::Capability;
@@ -17,6 +18,7 @@ use plain::types::{Slot, State};
 use slots::reads::{SLOTS, tagged_in, usable};
 use slots::slots::Slots;
 use store::Store;
+use stored_bytes::store_bytes::blank;
 use table::block::Block;
 use table::room::next_multiple;
 use table::table::Table;

@@ -1,4 +1,6 @@
 //! What the lines of a trace say: the heading, calls, remarks, and lines that are refused.
+#![tactic(auto)]
+
 mod checks;
 mod codes;
 pub mod fault;

@@ -6,12 +6,12 @@ ghost use Rattle.plain.specs.Memory.{started, usable as usable-count};
 ghost use Rattle.memory.specs.Of.{plain};
 
 use crate::memory::Memory;
-use stored_bytes::store_bytes::clear;
 use capability::format::Format;
 use plain::types::{Slot, Sweep};
 use slots::slots::Slots;
 use std::marker::PhantomData;
 use store::Store;
+use stored_bytes::store_bytes::clear;
 use table::table::Table;
 
 impl<'a, F: Format, S: Store> Memory<'a, F, S> {

@@ -1,4 +1,6 @@
 //! Answers the trace on standard input.
+#![tactic(auto)]
+
 use std::io;
 use std::io::{Read, Write};
 use trace::transcript::transcript;

@@ -1,5 +1,5 @@
 -- What a store means: the number of its first granule, and the word and tag of each granule.
-use Rattle.std.specs.Prelude.{◌≡◌, ℕ, zero, suc, ◌+◌, Bool, true, false, cond, List, [], ◌∷◌, map, length, Ok, Err, Result, nat_lt, slice_index_or, refl}
+use Rattle.std.specs.Prelude.{◌≡◌, ℕ, zero, suc, ◌+◌, Bool, false, cond, List, map, length, Ok, Err, Result, nat_lt, slice_index_or, refl}
 use Rattle.std.proofs.Common.{ap}
 use Rattle.std.specs.Borrow.{GName}
 use Rattle.std.proofs.lemmas.List.{length-map}

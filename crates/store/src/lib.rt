@@ -1,4 +1,6 @@
 //! The interface of a store: granules of eight bytes, each with a tag.
+#![tactic(auto)]
+
 ghost use Rattle.std.specs.Prelude.{◌≡◌, ℕ, ◌≤◌, List, length, set, slice_set};
 ghost use Rattle.store.specs.Cells.{Cell, Kept, cell, within};
 

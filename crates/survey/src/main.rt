@@ -1,4 +1,6 @@
 //! Reads and writes words of both formats, and prints what it found.
+#![tactic(auto)]
+
 ghost use Rattle.std.specs.Prelude.{◌≡◌, ◌<◌};
 ghost use Rattle.capability.specs.Formats.{rounded};
 ghost use Rattle.compact.specs.Compact.{field as part};

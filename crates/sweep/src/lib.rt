@@ -1,4 +1,6 @@
 //! The sweep, which takes back what was freed.
+#![tactic(auto)]
+
 ghost use Rattle.std.specs.Prelude.{◌≡◌, ℕ, ◌<◌, ◌≤◌, List, map};
 ghost use Rattle.stored_bytes.specs.Bytes.{renewed};
 ghost use Rattle.store.specs.Cells.{Cell};
@@ -6,13 +8,13 @@ ghost use Rattle.plain.specs.Memory.{Matches, cursor_of, cleaned, swept, call_op
 ghost use Rattle.table.specs.Recorded.{recorded};
 ghost use Rattle.slots.specs.Parts.{made_of};
 
-use stored_bytes::store_bytes::granule_at;
 use capability::format::Format;
 use capability::refusal::Refusal;
 use plain::types::{Slot, Sweep};
 use slots::reads::{spared, usable};
 use slots::slots::Slots;
 use store::Store;
+use stored_bytes::store_bytes::granule_at;
 use table::table::Table;
 
 // The cursor of a sweep, which is to be open.

@@ -1,4 +1,6 @@
 //! The table of blocks.
+#![tactic(auto)]
+
 pub mod block;
 pub mod records;
 pub mod room;

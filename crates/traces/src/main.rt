@@ -1,4 +1,6 @@
 //! Runs each trace that is named and compares what is written with the worked answers beside it.
+#![tactic(auto)]
+
 use std::{env, fs};
 use trace::transcript::transcript;
 

@@ -1,4 +1,6 @@
 //! The window: any store, under another first granule number.
+#![tactic(auto)]
+
 ghost use Rattle.std.specs.Prelude.{◌∷◌};
 
 use capability::refusal::Refusal;

@@ -1,4 +1,6 @@
 //! The word store: a buffer of granule records, a word and a mark each.
+#![tactic(auto)]
+
 ghost use Rattle.std.specs.Prelude.{◌≡◌, ℕ, length, slice_set};
 ghost use Rattle.store.specs.Cells.{within};
 ghost use Rattle.words.specs.Records.{record_cells, records_short, records_kept, records_after};
