@@ -1,5 +1,5 @@
 -- The bytes that a store's granules hold, and what writing bytes leaves. f is the number of the first granule.
-use Rattle.std.specs.Prelude.{ℕ, zero, suc, ◌+◌, ◌-◌, ◌*◌, ◌/◌, ◌%◌, ◌^◌, min, max, Bool, true, false, cond, ◌&&◌, List, length, nat_le, nat_lt}
+use Rattle.std.specs.Prelude.{ℕ, zero, suc, ◌+◌, ◌-◌, ◌*◌, ◌/◌, ◌%◌, ◌^◌, min, max, Bool, false, cond, ◌&&◌, List, length, nat_le, nat_lt}
 use Rattle.store.specs.Cells.{Cell, cell, listed}
 
 -- g 0 + g 1 + .. + g (n - 1)

@@ -21,8 +21,8 @@ loop-k-init g c =
     let b = 8 * f + from in
     (none_yet (leb to from) (arriving p f xs a b n) xs low m, counted_none (carried_nth p f xs a b n low) m (leb to from), refl, refl)
 
-pub overflow-add-carried : goal.overflow-add-carried
-overflow-add-carried g c =
+pub overflow_add-carried : goal.overflow_add-carried
+overflow_add-carried g c =
     let p = g.T.Test.passes c.args.test.now in
     let f = g.S.Store.origin c.args.store.now in
     let xs = g.S.Store.cells c.args.store.now in
@@ -32,7 +32,7 @@ overflow-add-carried g c =
     let low = to / 8 in
     let m = (to + n + 7) / 8 - low in
     let short = g.S.Store.short c.args.store.now in
-    let fits = counted_fits (carried_nth p f xs (8 * f + to) (8 * f + from) n low) m (leb to from) c.loop-k.k c.loop-k.carried _ c.copy-granule-carried.result (omega arith) (omega arith) c.copy-granule-carried.ensures.number c.loop-k.invariant.1 in
+    let fits = counted_fits (carried_nth p f xs (8 * f + to) (8 * f + from) n low) m (leb to from) c.loop-k.k c.loop-k.carried _ c.copy_granule-carried.result (omega arith) (omega arith) c.copy_granule-carried.ensures.number c.loop-k.invariant.1 in
     omega arith
 
 pub loop-k-preserved : goal.loop-k-preserved
@@ -46,13 +46,13 @@ loop-k-preserved g c =
     let low = to / 8 in
     let m = (to + n + 7) / 8 - low in
     let ys = g.S.Store.cells c.loop-k.store in
-    let zs = g.S.Store.cells c.copy-granule-carried.new.store in
+    let zs = g.S.Store.cells c.copy_granule-carried.new.store in
     let h = g.S.Store.origin c.loop-k.store in
     let k = c.loop-k.k in
     let d = c.if-to-from.d in
-    let r = c.copy-granule-carried.result in
-    let after = c.copy-granule-carried.ensures.after in
-    let came = c.copy-granule-carried.ensures.number in
+    let r = c.copy_granule-carried.result in
+    let after = c.copy_granule-carried.ensures.after in
+    let came = c.copy_granule-carried.ensures.number in
     let inv = c.loop-k.invariant in
     let up = leb to from in
     let place : d ≡ cond up k (m - 1 - k) =
@@ -64,8 +64,8 @@ loop-k-preserved g c =
       counted_more (carried_nth p f xs (8 * f + to) (8 * f + from) n low) m up k c.loop-k.carried d r (omega arith) place
           (turn_number p f h xs ys zs to from n low m k d r inv.2 (omega arith) after came up (leb-true to from) (leb-false to from) place inv.0)
           inv.1,
-      c.copy-granule-carried.ensures.fixed ∙ inv.2,
-      c.copy-granule-carried.ensures.held ∙ inv.3,
+      c.copy_granule-carried.ensures.fixed ∙ inv.2,
+      c.copy_granule-carried.ensures.held ∙ inv.3,
     )
 
 pub returns : goal.returns

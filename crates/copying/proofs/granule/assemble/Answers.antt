@@ -8,8 +8,8 @@ returns g c =
     let f = g.S.Store.origin c.args.store.now in
     let xs = g.S.Store.cells c.args.store.now in
     let x = 8 * (f + c.args.source) + c.args.r in
-    let l = c.granule-at-low.result.0 in
-    let h = c.granule-at-high.result.0 in
+    let l = c.granule_at-low.result.0 in
+    let h = c.granule_at-high.result.0 in
     let fits : l < 2 ^ 64 = omega arith in
     let small : c.slide.result < 256 ^ 8 = omega arith in
     let r : c.args.r ≡ x % 8 = omega arith in
@@ -17,6 +17,6 @@ returns g c =
     let j : c.args.source + 1 ≡ x / 8 + 1 - f = omega arith in
     sym (mod-eq_of_lt small)
     ∙ of_two f xs x 8 c.slide.result l h (omega arith)
-    (ap (λ (v : Cell). v.0) c.granule-at-low.ensures ∙ ap (λ (k : ℕ). (cell xs k).0) i)
-    (λ reach. ap (λ (v : Cell). v.0) c.granule-at-high.ensures ∙ ap (λ (k : ℕ). (cell xs k).0) j)
+    (ap (λ (v : Cell). v.0) c.granule_at-low.ensures ∙ ap (λ (k : ℕ). (cell xs k).0) i)
+    (λ reach. ap (λ (v : Cell). v.0) c.granule_at-high.ensures ∙ ap (λ (k : ℕ). (cell xs k).0) j)
     fits (c.slide.ensures ∙ ap (λ (k : ℕ). (l + h * 2 ^ 64) / 256 ^ k % 2 ^ 64) r)

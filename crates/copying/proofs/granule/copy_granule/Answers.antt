@@ -17,10 +17,10 @@ returns-then-start-to g c =
     let n = c.args.size in
     let x = 8 * i - c.args.to + c.args.from in
     record {
-      after = c.copy-whole.ensures.after ∙ ap (set xs i) (whole_arrives p f xs a b n i (x / 8) (x % 8) (omega arith) (omega arith) (omega arith) (omega arith));
-      number = c.copy-whole.ensures.number ∙ ap bit (whole_goes p f xs a b n i (x / 8) (x % 8) (omega arith) (omega arith) (omega arith) (omega arith));
-      fixed = c.copy-whole.ensures.fixed;
-      held = c.copy-whole.ensures.held;
+      after = c.copy_whole.ensures.after ∙ ap (set xs i) (whole_arrives p f xs a b n i (x / 8) (x % 8) (omega arith) (omega arith) (omega arith) (omega arith));
+      number = c.copy_whole.ensures.number ∙ ap bit (whole_goes p f xs a b n i (x / 8) (x % 8) (omega arith) (omega arith) (omega arith) (omega arith));
+      fixed = c.copy_whole.ensures.fixed;
+      held = c.copy_whole.ensures.held;
     }
 
 pub returns-else-to-start : goal.returns-else-to-start
@@ -36,8 +36,8 @@ returns-else-to-start g c =
     elim c.else-to-start.branch [ else-to-start-via-then-to-start+else-start-to w ↦ λ l h. omega (arith, w.if-start-to.false) | else-to-start-via-else-to-start w ↦ λ l h. omega (arith, w.if-to-start.false) ] in
     let none = fails _ (λ t. let q = parts p f xs a b n (source a b i) t in part (omega arith) (omega arith)) in
     record {
-      after = c.copy-part.ensures.after ∙ ap (set xs i) (plain p f xs a b n i _ none refl);
+      after = c.copy_part.ensures.after ∙ ap (set xs i) (plain p f xs a b n i _ none refl);
       number = sym (ap bit none);
-      fixed = c.copy-part.ensures.fixed;
-      held = c.copy-part.ensures.held;
+      fixed = c.copy_part.ensures.fixed;
+      held = c.copy_part.ensures.held;
     }

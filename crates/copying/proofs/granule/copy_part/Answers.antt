@@ -7,10 +7,10 @@ pub returns : goal.returns
 returns g c =
     let f = g.S.Store.origin c.args.store.now in
     let xs = g.S.Store.cells c.args.store.now in
-    let fits : c.granule-at-old.result.0 < 2 ^ 64 = omega arith in
+    let fits : c.granule_at-old.result.0 < 2 ^ 64 = omega arith in
     let word = mixed_is f xs (8 * f + c.args.to) (8 * f + c.args.from) c.args.size c.args.i
-    c.granule-at-old.result.0 c.assemble-new.result c.saturating-sub-low.result c.min-high.result c.merge.result
-    (omega arith) (omega arith) (omega arith) (omega arith) (omega arith) (ap (λ (v : Cell). v.0) c.granule-at-old.ensures) fits _ (omega arith) c.assemble-new.ensures c.merge.ensures in
+    c.granule_at-old.result.0 c.assemble-new.result c.saturating_sub-low.result c.min-high.result c.merge.result
+    (omega arith) (omega arith) (omega arith) (omega arith) (omega arith) (ap (λ (v : Cell). v.0) c.granule_at-old.ensures) fits _ (omega arith) c.assemble-new.ensures c.merge.ensures in
     record {
       after = c.set.ensures.after ∙ ap (λ (w : ℕ). set xs c.args.i (w, false)) word;
       fixed = c.set.ensures.fixed;

@@ -23,11 +23,11 @@ returns-then-tag g c =
     let xs = g.S.Store.cells c.args.store.now in
     let r = c.args.r in
     let j = c.args.source in
-    let v = c.granule-at-word.result in
+    let v = c.granule_at-word.result in
     let t = c.test-carries.result in
     let w = number (byte f xs) (8 * (f + j) + r) 8 in
     let fits : v.0 < 2 ^ 64 = omega arith in
-    let is : v ≡ cell xs j = c.granule-at-word.ensures in
+    let is : v ≡ cell xs j = c.granule_at-word.ensures in
     let word : v.0 ≡ w = word_is f xs (8 * (f + j) + r) j v.0 (omega arith) (ap (λ (d : Cell). d.0) is) fits in
     let goes : t ≡ (eqb r 0 && ((cell xs j).1 && p (cell xs j).0)) =
     c.test-carries.ensures
@@ -51,10 +51,10 @@ returns-else-tag g c =
     let xs = g.S.Store.cells c.args.store.now in
     let r = c.args.r in
     let j = c.args.source in
-    let v = c.granule-at-word.result in
+    let v = c.granule_at-word.result in
     let w = number (byte f xs) (8 * (f + j) + r) 8 in
     let fits : v.0 < 2 ^ 64 = omega arith in
-    let is : v ≡ cell xs j = c.granule-at-word.ensures in
+    let is : v ≡ cell xs j = c.granule_at-word.ensures in
     let word : v.0 ≡ w = word_is f xs (8 * (f + j) + r) j v.0 (omega arith) (ap (λ (d : Cell). d.0) is) fits in
     let none : (eqb r 0 && ((cell xs j).1 && p (cell xs j).0)) ≡ false =
     and_right (eqb r 0) _ (and_left _ _ (ap (λ (d : Cell). d.1) (sym is) ∙ c.if-tag.false)) in

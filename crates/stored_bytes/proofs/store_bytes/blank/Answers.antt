@@ -1,4 +1,4 @@
-use Rattle.std.proofs.Common.{◌≡◌, ℕ, Bool, false, refl, ◌∙◌, arith}
+use Rattle.std.proofs.Common.{ℕ, false, refl, ◌∙◌, arith}
 use Rattle.store.specs.Cells.{Cell}
 use Rattle.stored_bytes.proofs.Renewed.{renewed_touched, overlaid_none}
 use Rattle.stored_bytes.proofs.store_bytes.blank.Goals as goal
@@ -15,8 +15,8 @@ returns-then-n-eq0 g c = record {
 
 pub returns : goal.returns
 returns g c = record {
-  after = c.blank-granules.ensures.after
+  after = c.blank_granules.ensures.after
       ∙ renewed_touched none (g.S.Store.origin c.args.store.now) (g.S.Store.cells c.args.store.now) c.args.x c.args.n _ _ (omega arith) (omega arith) (omega arith);
-  fixed = c.blank-granules.ensures.fixed;
-  held = c.blank-granules.ensures.held;
+  fixed = c.blank_granules.ensures.fixed;
+  held = c.blank_granules.ensures.held;
 }

@@ -1,4 +1,4 @@
-use Rattle.std.proofs.Common.{◌≡◌, ℕ, ◌≤◌, Bool, false, List, set, sym, refl, ap, ◌∙◌, arith}
+use Rattle.std.proofs.Common.{◌≡◌, ℕ, false, List, set, refl, ap, ◌∙◌, arith}
 use Rattle.store.specs.Cells.{Cell}
 use Rattle.stored_bytes.specs.Bytes.{renewed}
 use Rattle.stored_bytes.proofs.Renewed.{renewed_none, renewed_more}

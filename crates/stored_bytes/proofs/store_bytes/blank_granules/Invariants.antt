@@ -1,4 +1,4 @@
-use Rattle.std.proofs.Common.{◌≡◌, ℕ, Bool, false}
+use Rattle.std.proofs.Common.{◌≡◌, ℕ, false}
 use Rattle.stored_bytes.specs.Bytes.{renewed}
 use Rattle.stored_bytes.proofs.store_bytes.blank_granules.Given as goal
 

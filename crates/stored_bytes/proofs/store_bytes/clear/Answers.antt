@@ -1,4 +1,4 @@
-use Rattle.std.proofs.Common.{◌≡◌, ℕ, Bool, false, length, ap, ◌∙◌, arith}
+use Rattle.std.proofs.Common.{ℕ, false, ap, ◌∙◌}
 use Rattle.store.specs.Cells.{Cell}
 use Rattle.stored_bytes.specs.Bytes.{renewed}
 use Rattle.stored_bytes.proofs.Renewed.{renewed_clear}
@@ -12,7 +12,7 @@ returns g c =
     let cells = g.S.Store.cells c.args.store.now in
     let e = c.count.ensures in
     record {
-      after = c.blank-granules.ensures.after ∙ ap (renewed none cells 0) e ∙ renewed_clear cells;
-      fixed = c.blank-granules.ensures.fixed;
-      held = c.blank-granules.ensures.held;
+      after = c.blank_granules.ensures.after ∙ ap (renewed none cells 0) e ∙ renewed_clear cells;
+      fixed = c.blank_granules.ensures.fixed;
+      held = c.blank_granules.ensures.held;
     }

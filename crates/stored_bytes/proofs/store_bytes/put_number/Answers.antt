@@ -7,8 +7,8 @@ pub returns-then-here-width : goal.returns-then-here-width
 returns-then-here-width g c =
     let f = g.S.Store.origin c.args.store.now in
     let xs = g.S.Store.cells c.args.store.now in
-    let ys = g.S.Store.cells c.put-within.new.store in
-    let zs = g.S.Store.cells c.put-within-then-here-width.new.store in
+    let ys = g.S.Store.cells c.put_within.new.store in
+    let zs = g.S.Store.cells c.put_within-then-here-width.new.store in
     let x = c.args.x in
     let n = c.args.width in
     let v = c.args.value in
@@ -17,10 +17,10 @@ returns-then-here-width g c =
     let next : 8 * (x / 8 + 1) + 0 ≡ x + h = omega arith in
     record {
       after = stored_parts f xs ys zs x n h v (omega arith) (omega arith) (omega arith) (omega arith)
-          (c.put-within.ensures.after ∙ ap (λ (a : ℕ). stored f xs a h v) at)
-          (c.put-within-then-here-width.ensures.after
-          ∙ ap (λ (o : ℕ). stored o ys (8 * (x / 8 + 1) + 0) (n - h) (v / 2 ^ (8 * h))) c.put-within.ensures.fixed
+          (c.put_within.ensures.after ∙ ap (λ (a : ℕ). stored f xs a h v) at)
+          (c.put_within-then-here-width.ensures.after
+          ∙ ap (λ (o : ℕ). stored o ys (8 * (x / 8 + 1) + 0) (n - h) (v / 2 ^ (8 * h))) c.put_within.ensures.fixed
           ∙ ap (λ (a : ℕ). stored f ys a (n - h) (v / 2 ^ (8 * h))) next);
-      fixed = c.put-within-then-here-width.ensures.fixed ∙ c.put-within.ensures.fixed;
-      held = c.put-within-then-here-width.ensures.held ∙ c.put-within.ensures.held;
+      fixed = c.put_within-then-here-width.ensures.fixed ∙ c.put_within.ensures.fixed;
+      held = c.put_within-then-here-width.ensures.held ∙ c.put_within.ensures.held;
     }

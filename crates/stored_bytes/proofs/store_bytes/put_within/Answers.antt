@@ -1,4 +1,4 @@
-use Rattle.std.proofs.Common.{◌≡◌, ℕ, ◌+◌, ◌-◌, ◌*◌, ◌^◌, ◌<◌, Bool, false, refl, ap, ◌∙◌, arith}
+use Rattle.std.proofs.Common.{◌≡◌, ℕ, ◌+◌, ◌-◌, ◌*◌, ◌^◌, ◌<◌, false, refl, ap, ◌∙◌, arith}
 use Rattle.stored_bytes.proofs.Renewed.{renewed_none, renewed_one, renewed_touched}
 use Rattle.stored_bytes.proofs.Stored.{fresh, written_is}
 use Rattle.stored_bytes.proofs.store_bytes.put_within.Goals as goal

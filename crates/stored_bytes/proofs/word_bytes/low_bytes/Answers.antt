@@ -4,8 +4,8 @@ use Rattle.std.proofs.lemmas.Nat.{and_mask}
 use Rattle.stored_bytes.proofs.Weights.{bits_bytes, weight_pos}
 use Rattle.stored_bytes.proofs.word_bytes.low_bytes.Goals as goal
 
-pub overflow-sub-result : goal.overflow-sub-result
-overflow-sub-result c = omega (arith, weight_pos c.args.n, c.weight.ensures)
+pub overflow_sub-result : goal.overflow_sub-result
+overflow_sub-result c = omega (arith, weight_pos c.args.n, c.weight.ensures)
 
 pub returns-else-n-eq8 : goal.returns-else-n-eq8
 returns-else-n-eq8 c =
