@@ -1,6 +1,6 @@
 -- What a copy of bytes leaves, over the cells of a store whose first granule has the number f. n bytes go from address b to
 -- address a, as if all were read first.
-use Rattle.std.specs.Prelude.{ℕ, zero, suc, ◌+◌, ◌-◌, ◌*◌, ◌/◌, ◌%◌, Bool, true, false, cond, ◌&&◌, List, length, ◌==◌, nat_le}
+use Rattle.std.specs.Prelude.{ℕ, zero, suc, ◌+◌, ◌-◌, ◌*◌, ◌/◌, ◌%◌, Bool, false, cond, ◌&&◌, List, length, ◌==◌, nat_le}
 use Rattle.store.specs.Cells.{Cell, cell}
 use Rattle.stored_bytes.specs.Bytes.{number, byte, among, overlaid}
 

@@ -23,7 +23,7 @@ fn assemble<S: Store>(store: &S, source: u32, r: u32) -> u64
 // none. At r = 0 the bytes are one granule's, which is carried where it may be.
 fn copy_whole<S: Store, T: Test>(store: &mut S, test: &T, i: u32, source: u32, r: u32) -> u32
     requires { (source < 8192) × (r < 8) }
-    ensures after { S.Store.cells store.new ≡ slice_set (S.Store.cells store.old) i (if nat_eq r 0 && ((cell (S.Store.cells store.old) source).1 && T.Test.passes test.now (cell (S.Store.cells store.old) source).0) then cell (S.Store.cells store.old) source else number (byte (S.Store.origin store.old) (S.Store.cells store.old)) (8 * (S.Store.origin store.old + source) + r) 8, false) }
+    ensures after { S.Store.cells store.new ≡ slice_set (S.Store.cells store.old) i (if nat_eq r 0 && ((cell (S.Store.cells store.old) source).1 && T.Test.passes test.now (cell (S.Store.cells store.old) source).0) then cell (S.Store.cells store.old) source else (number (byte (S.Store.origin store.old) (S.Store.cells store.old)) (8 * (S.Store.origin store.old + source) + r) 8, false)) }
     ensures number { result ≡ (if nat_eq r 0 && ((cell (S.Store.cells store.old) source).1 && T.Test.passes test.now (cell (S.Store.cells store.old) source).0) then 1 else 0) }
     ensures fixed { S.Store.origin store.new ≡ S.Store.origin store.old }
     ensures held { S.Store.kept store.new ≡ S.Store.kept store.old }

@@ -1,4 +1,4 @@
-use Rattle.std.proofs.Common.{◌≡◌, ◌+◌, ◌-◌, ◌*◌, ◌/◌, ◌%◌, ◌≤◌, set, sym, refl, ap, ◌∙◌, arith}
+use Rattle.std.proofs.Common.{◌+◌, ◌-◌, ◌*◌, ◌/◌, ◌%◌, ◌≤◌, set, sym, refl, ap, ◌∙◌, arith}
 use Rattle.stored_bytes.proofs.Renewed.{fails}
 use Rattle.copying.specs.Copy.{source}
 use Rattle.copying.proofs.After.{parts, plain, whole_goes, whole_arrives}

@@ -1,4 +1,4 @@
-use Rattle.std.proofs.Common.{◌≡◌, ℕ, ◌+◌, ◌*◌, ◌^◌, ◌<◌, Bool, false, set, ap, ◌∙◌, arith}
+use Rattle.std.proofs.Common.{ℕ, ◌+◌, ◌*◌, ◌^◌, ◌<◌, false, set, ap, ◌∙◌, arith}
 use Rattle.store.specs.Cells.{Cell}
 use Rattle.copying.proofs.After.{mixed_is}
 use Rattle.copying.proofs.granule.copy_part.Goals as goal
