@@ -1,5 +1,5 @@
 -- The least number that passes a test.
-use Rattle.std.specs.Prelude.{◌≡◌, ℕ, zero, suc, ◌<◌, Bool, true, false, cond, Some, None, Option, ◌≢◌}
+use Rattle.std.specs.Prelude.{◌≡◌, ℕ, zero, suc, ◌<◌, Bool, true, cond, Some, None, Option, ◌≢◌}
 
 -- it passes, is below n, and nothing lower passes; or nothing below n passes
 abbrev pub IsLeast : ℕ → (ℕ → Bool) → Option ℕ → Type 0

@@ -1,5 +1,5 @@
 -- The plain memory: its state, and what each call answers and leaves. m is the meaning of the format.
-use Rattle.std.specs.Prelude.{◌≡◌, ℕ, ◌+◌, ◌-◌, ◌*◌, ◌/◌, ◌%◌, ◌^◌, ◌<◌, ◌≤◌, min, Bool, true, false, cond, not, ◌&&◌, ◌||◌, List, [], ◌∷◌, ◌++◌, map, length, replicate, Some, None, Ok, Err, sum_by, count_by, filter, Option, Result, ◌==◌, bit_and, nat_le, nat_lt, slice_index_or, slice_set}
+use Rattle.std.specs.Prelude.{◌≡◌, ℕ, ◌+◌, ◌-◌, ◌*◌, ◌/◌, ◌%◌, ◌^◌, ◌<◌, ◌≤◌, min, Bool, true, false, not, ◌&&◌, ◌||◌, List, [], ◌∷◌, ◌++◌, map, length, replicate, Some, None, Ok, Err, sum_by, count_by, filter, Option, Result, ◌==◌, bit_and, nat_le, nat_lt, slice_index_or, slice_set}
 use Rattle.std.specs.Option.{ok_or}
 use Rattle.capability.specs.declared.refusal.Refusal.{Refusal}
 use Rattle.capability.specs.declared.refusal.Refusal.TheVariants.{NoSuchSlot, BadParameter, Untagged, MissingRight, Misaligned, OutOfBounds, NotLive, NotWholeBlock, TableFull, SerialsExhausted, NoRoom, SweepOpen, SweepShut, SweepUnfinished}
