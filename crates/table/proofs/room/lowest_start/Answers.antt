@@ -10,20 +10,20 @@ use Rattle.table.proofs.room.lowest_start.Goals as goal
 
 pub starts-smaller : goal.starts-smaller
 starts-smaller c =
-    let met = meets c.scan.start (c.scan.start + c.args.size) (entry c.index-blocks-place.result) c.if-not-is-apart.ensures in
-    omega (arith, met.1, c.next-multiple-start-then-not-is-apart.ensures.past)
+    let met = meets c.scan.start (c.scan.start + c.args.size) (entry c.index-blocks-place.result) c.if-not-is_apart.ensures in
+    omega (arith, met.1, c.next_multiple-start-then-not-is_apart.ensures.past)
 
 pub starts-preserved : goal.starts-preserved
 starts-preserved c =
     let bs = c.args.blocks.now in
     let b = c.index-blocks-place.result in
-    let n = c.next-multiple-start-then-not-is-apart.ensures in
-    let met = meets c.scan.start (c.scan.start + c.args.size) (entry b) c.if-not-is-apart.ensures in
+    let n = c.next_multiple-start-then-not-is_apart.ensures in
+    let met = meets c.scan.start (c.scan.start + c.args.size) (entry b) c.if-not-is_apart.ensures in
     let inside : c.scan.place < length bs = omega arith in (
       n.even,
       omega (arith, n.past, met.1),
       omega (arith, n.near),
-      passed (map entry bs) c.args.low c.args.high c.args.unit c.args.size c.starts.start c.next-multiple-start-then-not-is-apart.result c.scan.place (entry b)
+      passed (map entry bs) c.args.low c.args.high c.args.unit c.args.size c.starts.start c.next_multiple-start-then-not-is_apart.result c.scan.place (entry b)
           (omega (arith, length-map bs entry)) (entry_read bs c.scan.place b inside c.index-blocks-place.is) (omega (arith, met.0)) n.first c.starts.invariant.3,
       inl (omega arith),
     )
@@ -36,9 +36,9 @@ scan-preserved c =
     let bs = c.args.blocks.now in
     let b = c.index-blocks-place.result in
     let inside : c.scan.place < length bs = omega arith in
-    let clear = apart_of c.scan.start (c.scan.start + c.args.size) (entry b) c.if-not-is-apart.ensures in (
+    let clear = apart_of c.scan.start (c.scan.start + c.args.size) (entry b) c.if-not-is_apart.ensures in (
       c.scan.invariant.0,
-      round_more _ _ c.scan.place c.scan.clear c.place-after-place.result c.place-after-place.ensures c.scan.invariant.1
+      round_more _ _ c.scan.place c.scan.clear c.place_after-place.result c.place_after-place.ensures c.scan.invariant.1
           (subst (Apart c.scan.start (c.scan.start + c.args.size)) (entry_read bs c.scan.place b inside c.index-blocks-place.is) clear),
     )
 

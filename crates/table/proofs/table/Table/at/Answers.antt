@@ -7,8 +7,8 @@ use Rattle.table.proofs.table.Table.at.Goals as goal
 within : (t : Table) (i : ℕ) → i < length (recorded t) → i < t.used
 within t i h = let l : t.used ≤ length t.blocks = omega (arith, t.few, t.sized) in omega (arith, length_entries t.blocks t.used l)
 
-pub offset-bounds-self-place : goal.offset-bounds-self-place
-offset-bounds-self-place c = omega (arith, within c.args.self.now c.args.place c.requires, c.args.self.now.few)
+pub offset_bounds-self-place : goal.offset_bounds-self-place
+offset_bounds-self-place c = omega (arith, within c.args.self.now c.args.place c.requires, c.args.self.now.few)
 
 pub listed : goal.listed
 listed c = omega (arith, within c.args.self.now c.args.place c.requires, c.args.self.now.few, c.args.self.now.sized)

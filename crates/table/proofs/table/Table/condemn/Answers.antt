@@ -31,7 +31,7 @@ returns c =
     let few : t.used ≤ length es = omega (arith, length-map t.blocks entry, t.few, t.sized) in
     let long : length (opened (take t.used es)) ≡ t.used = length-map (take t.used es) open_entry ∙ length-take-le t.used es few in
     record {
-      count = c.freed-among-count.ensures ∙ ap (λ (n : ℕ). count_by (λ b. is_freed b.state) (map entry (take n t.blocks))) (let z : t.used - 0 ≡ t.used = omega arith in z);
+      count = c.freed_among-count.ensures ∙ ap (λ (n : ℕ). count_by (λ b. is_freed b.state) (map entry (take n t.blocks))) (let z : t.used - 0 ≡ t.used = omega arith in z);
       after =
           sym (take-map entry u.used u.blocks)
           ∙ ap (λ (n : ℕ). take n (map entry u.blocks)) c.loop-i.invariant.1

@@ -30,7 +30,7 @@ returns c =
     let t = c.args.self.now in
     let i-is : c.loop-i.i ≡ t.used = omega (arith, c.loop-i.auto.i-end) in
     record {
-      bytes = c.condemned-bytes-bytes.ensures ∙ ap (λ (n : ℕ). sum_by size_of (filter (λ b. is_condemned b.state) (map entry (take n t.blocks)))) (let z : t.used - 0 ≡ t.used = omega arith in z);
+      bytes = c.condemned_bytes-bytes.ensures ∙ ap (λ (n : ℕ). sum_by size_of (filter (λ b. is_condemned b.state) (map entry (take n t.blocks)))) (let z : t.used - 0 ≡ t.used = omega arith in z);
       after =
           ap (map entry) c.loop-i.invariant.0.front
           ∙ ap (λ (n : ℕ). map entry (filter (λ b. not (is_condemned b.state)) (take n t.blocks))) i-is
