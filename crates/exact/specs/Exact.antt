@@ -1,5 +1,5 @@
 -- The exact format: a word holds base, top and address whole.
-use Rattle.std.specs.Prelude.{ℕ, ◌+◌, ◌-◌, ◌*◌, ◌/◌, ◌%◌, ◌^◌, Bool, cond, ◌&&◌, Some, None, Option, ◌==◌, nat_le, nat_lt}
+use Rattle.std.specs.Prelude.{ℕ, ◌+◌, ◌-◌, ◌*◌, ◌/◌, ◌%◌, ◌^◌, Bool, cond, ◌&&◌, Some, None, ◌==◌, nat_le, nat_lt}
 use Rattle.capability.specs.Formats.{Meaning}
 use Rattle.capability.specs.declared.types.Capability.{Capability}
 

@@ -1,9 +1,9 @@
 -- The laws of the exact format.
-use Rattle.std.specs.Prelude.{◌≡◌, ℕ, ◌+◌, ◌-◌, ◌*◌, ◌/◌, ◌%◌, ◌^◌, ◌<◌, ◌≤◌, Bool, true, false, cond, is_some, Some, None, Option, nat_lt, refl}
+use Rattle.std.specs.Prelude.{◌≡◌, ℕ, ◌+◌, ◌-◌, ◌*◌, ◌/◌, ◌^◌, ◌<◌, ◌≤◌, Bool, true, false, cond, is_some, Some, None, nat_lt, refl}
 use Rattle.std.proofs.Common.{sym, ap, ◌∙◌, arith, rules}
 use Rattle.std.proofs.lemmas.Nat.{shr-shr}
 use Rattle.std.proofs.lemmas.Bool.{cond-true, and_parts, and_from, eqb-true, eq-eqb, ltb-true, lt-ltb}
-use Rattle.capability.specs.Formats.{Meaning, Lawful, UnitOf, with_rights}
+use Rattle.capability.specs.Formats.{Lawful, with_rights}
 use Rattle.capability.specs.declared.types.Capability.{Capability}
 use Rattle.exact.specs.Exact.{exact, field, carries, packed, unpacked, proper}
 
