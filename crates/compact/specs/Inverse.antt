@@ -1,6 +1,6 @@
 -- Reading undoes writing: for every exponent together.
-use Rattle.std.specs.Prelude.{◌≡◌, ℕ, ◌+◌, ◌-◌, ◌*◌, ◌/◌, ◌%◌, ◌^◌, ◌<◌, ◌≤◌, Bool, true, eqb, ltb, leb, refl}
-use Rattle.std.proofs.Common.{sym, ap, ◌∙◌, ⊎_elim, add-mul, arith, rules}
+use Rattle.std.specs.Prelude.{◌≡◌, ℕ, ◌+◌, ◌-◌, ◌*◌, ◌/◌, ◌%◌, ◌^◌, ◌<◌, ◌≤◌, true}
+use Rattle.std.proofs.Common.{ap, ◌∙◌, ⊎_elim, add-mul, arith, rules}
 use Rattle.std.proofs.lemmas.Nat.{pow_pos, pow-add, div-add-mod', mul-le, div_below, le-div}
 use Rattle.std.proofs.lemmas.Bool.{cases_lt, and_from, lt-ltb, le-leb}
 use Rattle.capability.specs.declared.types.Capability.{Capability}

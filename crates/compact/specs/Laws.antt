@@ -1,10 +1,10 @@
 -- The words of the compact format: what write gives, and that read and write undo each other.
-use Rattle.std.specs.Prelude.{◌≡◌, ℕ, ◌+◌, ◌-◌, ◌*◌, ◌/◌, ◌%◌, ◌^◌, ◌<◌, ◌≤◌, Bool, true, false, cond, is_some, Some, None, Option, ◌≢◌, refl}
+use Rattle.std.specs.Prelude.{◌≡◌, ℕ, ◌^◌, ◌<◌, ◌≤◌, Bool, true, false, cond, is_some, Some, None, Option, ◌≢◌, refl}
 use Rattle.std.proofs.Common.{sym, ap, ◌∙◌, ⊎_elim, arith}
 use Rattle.std.proofs.lemmas.Bool.{cases_Bool, cond-true, cond-false, eq-eqb, eqb-true, both_ways}
 use Rattle.capability.specs.Formats.{with_rights}
 use Rattle.capability.specs.declared.types.Capability.{Capability}
-use Rattle.compact.specs.Exponents.{IsExponent, exponent_of}
+use Rattle.compact.specs.Exponents.{exponent_of}
 use Rattle.compact.specs.Compact.{carries, nine_bits, packed, word_at, word, field, unpacked, is, capability}
 use Rattle.compact.specs.Powers.{exponent_is}
 use Rattle.compact.specs.Inverse.{Carried, carried, carries_from, get_low, get_high, get_exponent, unpacked_packed, packed_fits}

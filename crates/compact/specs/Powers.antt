@@ -1,10 +1,10 @@
 -- The two exponents: what the definitions compute, and what the code finds, is what the statements say.
-use Rattle.std.specs.Prelude.{◌≡◌, ℕ, zero, suc, ◌+◌, ◌-◌, ◌*◌, ◌/◌, ◌%◌, ◌^◌, ◌<◌, ◌≤◌, min, Bool, true, false, cond, ◌==◌, nat_le, refl}
-use Rattle.std.proofs.Common.{sym, ap, subst, ◌∙◌, zero-mul, sub-add_cancel, le-mul_of_pos_right, add-one, arith}
+use Rattle.std.specs.Prelude.{◌≡◌, ℕ, zero, suc, ◌+◌, ◌-◌, ◌*◌, ◌/◌, ◌%◌, ◌^◌, ◌<◌, ◌≤◌, min, Bool, true, ◌==◌, nat_le, refl}
+use Rattle.std.proofs.Common.{sym, ap, ◌∙◌, zero-mul, sub-add_cancel, le-mul_of_pos_right, add-one, arith}
 use Rattle.std.proofs.Math.Nat.{mul-mod_left}
 use Rattle.std.specs.Int.Count.{count_trailing_zeros, under}
 use Rattle.std.proofs.lemmas.Nat.{pow_pos, mod-pow-add, shl-shr}
-use Rattle.std.proofs.lemmas.Bool.{cond_both, and_parts, and_from, eqb-true, eq-eqb, leb-true, le-leb, both_ways, true≢false}
+use Rattle.std.proofs.lemmas.Bool.{cond_both, and_parts, and_from, eqb-true, eq-eqb, leb-true, le-leb, both_ways}
 use Rattle.compact.specs.Exponents.{IsExponent, IsUnitExponent, greatest, first, divides_both, exponent_of, unit_exponent_of}
 
 -- no larger number passes

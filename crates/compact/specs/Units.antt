@@ -1,12 +1,12 @@
 -- The unit of a size is the least that serves it.
 use Rattle.std.specs.Prelude.{◌≡◌, ℕ, ◌+◌, ◌-◌, ◌*◌, ◌/◌, ◌%◌, ◌^◌, ◌<◌, ◌≤◌, true, is_some, Some, None, Option, refl}
-use Rattle.std.proofs.Common.{sym, ap, ◌∙◌, ⊎_elim, add-mul, mul_comm, div-mul-le_self, mod-eq_of_lt, arith, pow_mono}
+use Rattle.std.proofs.Common.{ap, ◌∙◌, ⊎_elim, add-mul, mul_comm, div-mul-le_self, mod-eq_of_lt, arith, pow_mono}
 use Rattle.std.proofs.Math.Nat.{lt-div-mul-add}
 use Rattle.std.proofs.lemmas.Nat.{pow_pos, pow_below, mul-le, div_below, mod-mul-add}
 use Rattle.std.proofs.lemmas.Bool.{cases_lt, both_ways}
 use Rattle.capability.specs.Formats.{Lawful, Serves, UnitOf, rounded, over}
 use Rattle.capability.specs.declared.types.Capability.{Capability}
-use Rattle.compact.specs.Exponents.{IsExponent, exponent_of, unit_exponent_of}
+use Rattle.compact.specs.Exponents.{exponent_of, unit_exponent_of}
 use Rattle.compact.specs.Compact.{compact, word}
 use Rattle.compact.specs.Powers.{exponent_is, unit_exponent_is}
 use Rattle.compact.specs.Inverse.{Carried}

@@ -1,5 +1,5 @@
 //! The exponent of bounds, and the exponent of a size's unit.
-ghost use Rattle.std.specs.Prelude.{◌≡◌, ◌*◌, ◌^◌, ◌&&◌, leb, if◌then◌else◌, Ok, Err, ◌==◌, nat_le};
+ghost use Rattle.std.specs.Prelude.{◌≡◌, ◌*◌, ◌^◌, ◌&&◌, if◌then◌else◌, Ok, Err, IfOk, ◌==◌, nat_le};
 ghost use Rattle.capability.specs.declared.refusal.Refusal.TheVariants.{BadParameter};
 ghost use Rattle.compact.specs.Exponents.{IsExponent, exponent_of, IsUnitExponent, unit_exponent_of};
 
@@ -38,8 +38,8 @@ pub fn is_exponent(e: u32, base: u64, top: u64) -> bool
 
 /// The least number from 3 to 14 for which the size is at most 511 times two to that power.
 pub fn unit_exponent(size: u32) -> Result<u32, Refusal>
-    ensures value { result ≡ (if leb 1 size && nat_le size 65536 then Ok (unit_exponent_of size) else Err BadParameter) }
-    ensures least { elim result [ Ok e ↦ IsUnitExponent size e | Err _ ↦ Unit {0} ] }
+    ensures value { result ≡ (if nat_le 1 size && nat_le size 65536 then Ok (unit_exponent_of size) else Err BadParameter) }
+    ensures least { IfOk result (λ e. IsUnitExponent size e) }
 {
     if !(1..=LARGEST).contains(&size) {
         return Err(Refusal::BadParameter);

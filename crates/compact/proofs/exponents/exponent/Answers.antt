@@ -1,6 +1,3 @@
-use Rattle.std.proofs.Common.{◌≡◌, min, ap, ◌∙◌}
-use lib.Count.{count_trailing_zeros}
-use Rattle.compact.specs.Exponents.{exponent_of}
 use Rattle.compact.specs.Powers.{fewest_zeros, exponent_is, one_exponent}
 use Rattle.compact.proofs.exponents.exponent.Goals as goal
 

@@ -1,7 +1,7 @@
-use Rattle.std.proofs.Common.{◌≡◌, ℕ, ◌*◌, ◌^◌, ◌≤◌, Ok, Err, sym, ap, ◌∙◌, arith, rules}
+use Rattle.std.proofs.Common.{◌≤◌, Ok, sym, ap, ◌∙◌, arith, rules}
 use Rattle.std.proofs.lemmas.Nat.{shl_whole}
 use Rattle.std.proofs.lemmas.Bool.{and_from, cond-true, le-leb}
-use Rattle.compact.specs.Exponents.{IsUnitExponent, unit_exponent_of}
+use Rattle.compact.specs.Exponents.{IsUnitExponent}
 use Rattle.compact.specs.Powers.{unit_exponent_is, one_unit_exponent}
 use Rattle.compact.proofs.exponents.unit_exponent.Goals as goal
 

@@ -1,7 +1,7 @@
-use Rattle.std.proofs.Common.{◌≡◌, true, Ok, sym, ap, ◌∙◌, arith}
+use Rattle.std.proofs.Common.{Ok, sym, ap, ◌∙◌, arith}
 use Rattle.std.specs.Option.{ok_or}
 use Rattle.capability.specs.declared.refusal.Refusal.TheVariants.{NotCarried}
-use Rattle.compact.specs.Compact.{carries, nine_bits}
+use Rattle.compact.specs.Compact.{nine_bits}
 use Rattle.compact.specs.Inverse.{carried, shifted}
 use Rattle.compact.specs.Laws.{word_given, word_refused}
 use Rattle.compact.proofs.format.CompactFormat.write.Goals as goal
