@@ -1,11 +1,9 @@
 -- The worked examples hold.
-use Rattle.std.proofs.Common.{◌≡◌, ℕ, ◌+◌, ◌-◌, ◌*◌, ◌/◌, ◌%◌, ◌^◌, ◌≤◌, true, Some, None, sym, refl, ap, ◌∙◌, arith, rules}
-use Rattle.capability.specs.declared.types.Capability.{Capability}
+use Rattle.std.proofs.Common.{◌≡◌, ℕ, None, sym, refl, ap, ◌∙◌, arith, rules}
 use Rattle.compact.specs.Exponents.{greatest, first, exponent_of, unit_exponent_of}
 use Rattle.compact.specs.Compact.{compact, nine_bits, field, word, located, unpacked}
 use Rattle.compact.specs.Laws.{word_fields, read_refused}
-use Rattle.exact.specs.Exact.{exact}
-use Rattle.worked.specs.Worked.{cap_of, Carries, Refuses, HasFields, Examples, field_e, field_b, field_t, field_address}
+use Rattle.worked.specs.Worked.{cap_of, Carries, HasFields, Examples, field_e, field_b, field_t, field_address}
 
 -- bounds that are carried have the fields that the rule computes
 has_fields : (base top : ℕ) → Carries compact base top base

@@ -1,20 +1,7 @@
--- The steps of the count: one field more, one place more.
-use Rattle.std.proofs.Common.{◌≡◌, ℕ, zero, suc, ◌+◌, ◌-◌, ◌/◌, ◌%◌, ◌<◌, ◌≤◌, Bool, true, false, cond, List, [], ◌∷◌, length, get_or, take, drop, sym, refl, ap, ◌∙◌, add-one, arith}
-use lib.Bits.{bit_or}
-use Rattle.std.proofs.lemmas.List.{take_all}
+-- The steps of the count: one place more.
+use Rattle.std.proofs.Common.{◌≡◌, ℕ, ◌+◌, Bool, true, false, cond, refl, ap, add-one, arith}
 use Rattle.std.proofs.lemmas.Bool.{cond-true, cond-false}
-use Rattle.worked.specs.Ends.{end_of, word_of, count_below}
-use Rattle.worked.specs.declared.ends.Field.{Field}
-
-pub word_none : (fs : List Field) (place : ℕ) → length fs < 1 → 0 ≡ word_of fs place
-word_none [] place h = refl
-word_none (f ∷ fs) place h = absurd (omega arith)
-
-pub word_more : (fs : List Field) (place : ℕ) (d : Field) → 1 ≤ length fs
-    → bit_or (end_of (get_or fs 0 d) (place % 4)) (word_of (take (length fs - 1) (drop 1 fs)) (place / 4)) ≡ word_of fs place
-word_more [] place d h = absurd (omega arith)
-word_more (f ∷ fs) place d h =
-    ap (λ l. bit_or (end_of f (place % 4)) (word_of l (place / 4))) (take_all (length (f ∷ fs) - 1) fs (omega arith))
+use Rattle.worked.specs.Ends.{count_below}
 
 count_more : (n : ℕ) (test : ℕ → Bool) → count_below (n + 1) test ≡ count_below n test + cond (test n) 1 0
 unfolding count_below
