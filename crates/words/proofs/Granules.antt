@@ -1,9 +1,9 @@
 -- The granules of the records: one that is set, and the others as they were. Assumes nothing.
-use Rattle.std.proofs.Common.{◌≡◌, ℕ, ◌<◌, ◌≤◌, Bool, true, false, not, eqb, List, [], ◌∷◌, length, get_or, drop, set, sym, refl, ap, ◌∙◌, arith}
+use Rattle.std.proofs.Common.{◌≡◌, ℕ, ◌<◌, Bool, true, false, not, eqb, List, [], ◌∷◌, length, drop, set, refl, ap, ◌∙◌, arith}
 use base.Fml.{GName}
 use mir.Val.{bool_byte}
 use Rattle.std.proofs.lemmas.List.{length-set, get_or-set_same, get_or-set_other, drop-set-lt}
-use Rattle.store.specs.Cells.{Cell, listed, length_listed}
+use Rattle.store.specs.Cells.{listed, length_listed}
 use Rattle.store.proofs.Listed.{set_listed}
 use Rattle.words.specs.declared.Granule.{Granule}
 use Rattle.words.specs.Records.{meaning, record_at, fitting, record_cells, record_of, numbers, records_kept}

@@ -1,5 +1,5 @@
 -- What the records of a word store mean, and what they are once a granule is set.
-use Rattle.std.specs.Prelude.{◌≡◌, ℕ, ◌≤◌, min, Bool, cond, not, List, [], ◌∷◌, length, drop, set, ◌==◌, nat_lt, slice_index_or, slice_set}
+use Rattle.std.specs.Prelude.{ℕ, ◌≤◌, min, Bool, cond, not, List, [], ◌∷◌, length, drop, ◌==◌, nat_lt, slice_index_or, slice_set}
 use Rattle.std.proofs.Common.{arith}
 use Rattle.std.specs.Borrow.{GName}
 use mir.Val.{bool_byte}
