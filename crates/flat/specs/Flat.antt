@@ -1,5 +1,5 @@
 -- What the two buffers of a flat store mean, and what they hold once a granule is set.
-use Rattle.std.specs.Prelude.{◌≡◌, ℕ, zero, suc, ◌+◌, ◌-◌, ◌*◌, ◌/◌, ◌%◌, ◌^◌, ◌≤◌, min, Bool, cond, List, [], ◌∷◌, ◌++◌, map, length, drop, set, ◌==◌, nat_lt, slice_index, slice_set}
+use Rattle.std.specs.Prelude.{ℕ, zero, suc, ◌+◌, ◌-◌, ◌*◌, ◌/◌, ◌%◌, ◌^◌, ◌≤◌, min, Bool, cond, List, [], ◌∷◌, ◌++◌, map, length, drop, ◌==◌, nat_lt, slice_index, slice_set}
 use Rattle.std.proofs.Common.{arith}
 use Rattle.std.specs.Borrow.{GName}
 use mir.Val.{bool_byte}
@@ -61,8 +61,8 @@ left_over n bytes tags = drop (8 * n) bytes ++ map (tag_bit tags) (range_with_le
 
 -- what no call changes: the references to the buffers, and what they hold besides the granules
 abbrev pub flat_kept : GName → GName → List ℕ → List ℕ → Kept
-flat_kept data-name tags-name bytes tags = record {
-  references = data-name ∷ tags-name ∷ [];
+flat_kept data_name tags_name bytes tags = record {
+  references = data_name ∷ tags_name ∷ [];
   rest = left_over (fitting bytes tags) bytes tags;
 }
 

@@ -4,5 +4,5 @@ use Rattle.flat.proofs.buffers.word_at.Goals as goal
 
 pub returns : goal.returns
 returns c =
-    let w = word_of_part c.copy-from-slice.new.self c.args.«data».now c.args.i c.copy-from-slice.ensures.after in
+    let w = word_of_part c.copy_from_slice.new.self c.args.«data».now c.args.i c.copy_from_slice.ensures.after in
     omega arith
