@@ -5,11 +5,11 @@ use Rattle.text.proofs.fields.number.Goals as goal
 pub returns-then-byte-lt48 : goal.returns-then-byte-lt48
 returns-then-byte-lt48 c = search (rules, none_at)
 
-pub overflow-mul-value : goal.overflow-mul-value
-overflow-mul-value c = search (rules, value_bound)
+pub overflow_mul-value : goal.overflow_mul-value
+overflow_mul-value c = search (rules, value_bound)
 
-pub overflow-add-value : goal.overflow-add-value
-overflow-add-value c = search (rules, value_bound)
+pub overflow_add-value : goal.overflow_add-value
+overflow_add-value c = search (rules, value_bound)
 
 pub loop-byte-preserved : goal.loop-byte-preserved
 loop-byte-preserved c = search (rules, all_more, value_step)

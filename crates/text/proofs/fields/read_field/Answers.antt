@@ -3,8 +3,8 @@ use Rattle.std.proofs.lemmas.List.{take_rest}
 use Rattle.text.proofs.Numbers.{text_blank, text_zero, text_number, text_none}
 use Rattle.text.proofs.fields.read_field.Goals as goal
 
-pub returns-then-is-empty : goal.returns-then-is-empty
-returns-then-is-empty c = search (rules, take_rest, text_blank)
+pub returns-then-is_empty : goal.returns-then-is_empty
+returns-then-is_empty c = search (rules, take_rest, text_blank)
 
 pub returns-then-digits-gt1 : goal.returns-then-digits-gt1
 returns-then-digits-gt1 c = search (rules, take_rest, text_zero)
