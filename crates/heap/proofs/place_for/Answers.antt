@@ -13,8 +13,8 @@ ends g c =
     let end = usable_ends g.F.Format.meaning g.met.F.Format.lawful (g.S.Store.origin c.args.store.now) (g.S.Store.cells c.args.store.now) some in
     omega (arith, c.usable.ensures.is, c.first-first.ensures)
 
-pub overflow-cast-result : goal.overflow-cast-result
-overflow-cast-result g c = let e = ends g c in omega arith
+pub overflow_cast-result : goal.overflow_cast-result
+overflow_cast-result g c = let e = ends g c in omega arith
 
 pub returns-in-Some : goal.returns-in-Some
 returns-in-Some g c = record { is = search rules; between = (ends g c, c.in-Some.ensures.between.2) }

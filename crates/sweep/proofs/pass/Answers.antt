@@ -27,14 +27,14 @@ loop-i-preserved g c =
     let cells = g.S.Store.cells c.args.store.now in
     let i = c.loop-i.i in
     let low = c.args.low in
-    let got : c.granule-at-word.result ≡ cell cells i =
-    c.granule-at-word.ensures ∙ ap (λ (x : List Cell). cell x i) c.loop-i.invariant.0 ∙ renewed_here (swept m bs cells) cells low i in
+    let got : c.granule_at-word.result ≡ cell cells i =
+    c.granule_at-word.ensures ∙ ap (λ (x : List Cell). cell x i) c.loop-i.invariant.0 ∙ renewed_here (swept m bs cells) cells low i in
     elim c.if-old.branch [
       | then-old w ↦ simp w.store-is (
         w.set.ensures.after
-            ∙ ap (λ (x : List Cell). set x i (c.granule-at-word.result.0, w.spared-tag.result)) c.loop-i.invariant.0
-            ∙ renewed_more (swept m bs cells) cells low i (c.granule-at-word.result.0, w.spared-tag.result) c.loop-i.auto.i
-            (read m bs c.granule-at-word.result (cell cells i) w.spared-tag.result got w.spared-tag.ensures),
+            ∙ ap (λ (x : List Cell). set x i (c.granule_at-word.result.0, w.spared-tag.result)) c.loop-i.invariant.0
+            ∙ renewed_more (swept m bs cells) cells low i (c.granule_at-word.result.0, w.spared-tag.result) c.loop-i.auto.i
+            (read m bs c.granule_at-word.result (cell cells i) w.spared-tag.result got w.spared-tag.ensures),
         w.set.ensures.fixed ∙ c.loop-i.invariant.1,
         w.set.ensures.held ∙ c.loop-i.invariant.2,
       )

@@ -8,7 +8,7 @@ pub returns : goal.returns
 returns c = record {
   value = search rules;
   bounded =
-      bounded c.args.limits c.args.line.now c.in-ok-fields.fields
-      (sym c.read.ensures ∙ c.in-ok-fields.ensures.ok-part)
-      (ap (λ m. check m NumberTooLarge) (sym c.exceeded-in.ensures) ∙ sym c.in-ok-refuse-2.ensures);
+      bounded c.args.limits c.args.line.now c.in_ok-fields.fields
+      (sym c.read.ensures ∙ c.in_ok-fields.ensures.ok-part)
+      (ap (λ m. check m NumberTooLarge) (sym c.exceeded_in.ensures) ∙ sym c.in_ok-refuse-2.ensures);
 }

@@ -5,8 +5,8 @@ use Rattle.trace.proofs.transcript.run_flat.Goals as goal
 
 pub returns : goal.returns
 returns g c =
-    counted c.run-window.result g.F.Format.meaning c.args.heading.first _ _ _ _ (coming c.args.reader)
+    counted c.run_window.result g.F.Format.meaning c.args.heading.first _ _ _ _ (coming c.args.reader)
     (flat_count c.as-mut-slice.result.now c.as-mut-slice-2.result.now c.args.heading.granules (omega arith)
-    (c.as-mut-slice.ensures.len ∙ c.in-ok-data.ensures.len)
-    (c.as-mut-slice-2.ensures.len ∙ c.in-ok-tags.ensures.len ∙ c.div-ceil.ensures))
-    c.run-window.ensures
+    (c.as-mut-slice.ensures.len ∙ c.in_ok-data.ensures.len)
+    (c.as-mut-slice-2.ensures.len ∙ c.in_ok-tags.ensures.len ∙ c.div-ceil.ensures))
+    c.run_window.ensures
