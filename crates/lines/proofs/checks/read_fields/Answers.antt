@@ -9,6 +9,6 @@ returns c = record {
   value = search rules;
   bounded =
       bounded c.args.limits c.args.line.now c.in_ok-fields.fields
-      (sym c.read.ensures ∙ c.in_ok-fields.ensures.ok-part)
+      (sym c.read.ensures ∙ c.in_ok-fields.ensures.ok_part)
       (ap (λ m. check m NumberTooLarge) (sym c.exceeded_in.ensures) ∙ sym c.in_ok-refuse-2.ensures);
 }
