@@ -72,7 +72,10 @@ mod tests {
     fn too_long(rt: HostRuntime) -> Result<(), Fail> {
         let input = vec![in rt.alloc(); 10u8; 65537]?;
         let answer = transcript(rt.alloc(), input.as_slice())?;
-        assert_eq!(rt; answer.as_slice(), b"     0  1                    0\n");
+        assert_eq!(rt;
+            answer.as_slice(),
+            b"     0  1                    0\n".as_slice()
+        );
         Ok(())
     }
 }

@@ -2,9 +2,15 @@
 use Rattle.std.specs.Prelude.{ℕ, List}
 use Rattle.store.specs.Cells.{Cell}
 use Rattle.plain.specs.Memory.{Plain}
-use Rattle.slots.specs.Parts.{made_of}
 use Rattle.table.specs.Recorded.{recorded}
 use Rattle.memory.specs.declared.memory.Memory.{Memory}
 
 abbrev pub plain : {F S : Type 0} → (S → ℕ) → (S → List Cell) → Memory F S → Plain
-plain origin cells m = made_of m.slots.cells (recorded m.table) m.next m.sweep (origin m.store.now) (cells m.store.now)
+plain origin cells m = record {
+  slots = m.slots.cells;
+  blocks = recorded m.table;
+  next = m.next;
+  sweep = m.sweep;
+  first = origin m.store.now;
+  cells = cells m.store.now;
+}
