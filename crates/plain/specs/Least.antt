@@ -11,6 +11,6 @@ abbrev pub first_of : ℕ → ℕ → (ℕ → Bool) → Option ℕ
 first_of zero a test = None
 first_of (suc n) a test = cond (test a) (Some a) (first_of n (suc a) test)
 
--- the least number below n that passes the test, if one does: it is the one that Is-least speaks of
+-- the least number below n that passes the test, if one does: it is the one that IsLeast speaks of
 unfoldable pub least : ℕ → (ℕ → Bool) → Option ℕ
 least n test = first_of n 0 test

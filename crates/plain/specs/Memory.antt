@@ -30,9 +30,9 @@ abbrev pub serial_limit : ℕ
 serial_limit = 2 ^ 32
 
 pub record Plain : Type 0 where
-  -- the slots; a memory has slot-count of them (crates/slots/src/slots.rt)
+  -- the slots; a memory has slot_count of them (crates/slots/src/slots.rt)
   pub slots : List Slot
-  -- the blocks on record; a memory has at most block-limit (crates/table/src/table.rt)
+  -- the blocks on record; a memory has at most block_limit (crates/table/src/table.rt)
   pub blocks : List Entry
   -- the next serial
   pub next : ℕ
@@ -313,7 +313,7 @@ abbrev pub may_carry : Meaning → List Entry → Capability → Capability → 
 may_carry m bs ca cb w =
     has LoadCapabilities cb && (has StoreCapabilities ca && ((is_global m w || has StoreLocal ca) && not (word_condemned m bs w)))
 
--- n bytes from x on are bytes of the store. This is so of the bytes of every capability that a program has (in-usable of the
+-- n bytes from x on are bytes of the store. This is so of the bytes of every capability that a program has (in_usable of the
 -- guarantee), so it refuses nothing there; a copy asks it all the same, since copying is defined on the bytes of the store.
 abbrev pub in_store : ℕ → List Cell → ℕ → ℕ → Bool
 in_store first cells x n = nat_le (8 * first) x && nat_le (x + n) (8 * (first + length cells))

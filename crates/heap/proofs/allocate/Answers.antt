@@ -15,4 +15,4 @@ invariant_of-add g c =
     let e = c.next_multiple-whole.ensures.is in
     let x = u.granules c.in_ok-start.start c.in_ok-start.ensures.between.1 in
     let y : c.next_multiple-whole.result % 8 ≡ 0 = ap (λ (n : ℕ). n % 8) e ∙ w.granules in
-    record { filled = omega (arith, w.positive); whole = (x, sum_granules c.in_ok-start.start c.next_multiple-whole.result x y); }
+    record { filled = omega (arith, w.positive); whole = (x, sum_granules c.in_ok-start.start c.next_multiple-whole.result x y) }
