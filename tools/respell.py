@@ -58,6 +58,12 @@ def declared(root):
     return out
 
 
+def called(text):
+    """What the imports of a file call names of ours by."""
+    imports = "\n".join(re.findall(r"\buse Rattle\.(?!std\b)[^;\n]*", text))
+    return {name for name in re.findall(r" as (" + WORD + r")", imports) if "-" in name}
+
+
 def library(root):
     """Names that files take from the library, with the files."""
     out = collections.defaultdict(set)
@@ -136,12 +142,12 @@ def main():
     if clash or "--dry" in sys.argv:
         return 1 if clash else 0
     rename_crates(root)
-    change = lambda t: TOKEN.sub(lambda m: turned.get(m.group(1), m.group(1)), t)
+    change = lambda t, also=(): TOKEN.sub(lambda m: respelled(m.group(1)) if m.group(1) in also else turned.get(m.group(1), m.group(1)), t)
     ticked = lambda t: re.sub(r"`[^`\n]*`", lambda m: change(m.group(0)), t)
     for p in files(root, ".antt"):
-        write(p, lambda t: outside_comments(t, "--", change))
+        write(p, lambda t: outside_comments(t, "--", lambda part: change(part, called(t))))
     for p in files(root, ".rt"):
-        write(p, lambda t: ghost_parts(t, lambda g: outside_comments(g, "//", change)))
+        write(p, lambda t: ghost_parts(t, lambda g: outside_comments(g, "//", lambda part: change(part, called(t)))))
     for p in files(root, ".edit"):
         write(p, lambda t: ghost_parts(t, change))
     for p in [os.path.join(root, "README.md")] + list(files(root, ".md", ("docs",))):

@@ -3,7 +3,7 @@
 
 ghost use Rattle.std.specs.Prelude.{◌≡◌, ℕ};
 ghost use Rattle.plain.specs.declared.types.Sweep.{Sweep};
-ghost use Rattle.plain.specs.Memory.{Matches, may_carry, covered as is-covered, call_copy};
+ghost use Rattle.plain.specs.Memory.{Matches, may_carry, covered as is_covered, call_copy};
 ghost use Rattle.table.specs.Recorded.{recorded};
 ghost use Rattle.slots.specs.Parts.{made_of};
 
@@ -40,7 +40,7 @@ impl<'t, F: Format> Test for Carriage<'t, F> {
 
 // Whether a copy of n bytes may use the bytes at a capability's address; one of no bytes may.
 fn covered<S: Store>(store: &S, c: Capability, n: u32) -> bool
-    ensures { result ≡ is-covered (S.Store.origin store.now) (S.Store.cells store.now) c n }
+    ensures { result ≡ is_covered (S.Store.origin store.now) (S.Store.cells store.now) c n }
 {
     let first = store.first() as u64;
     let end = first + store.count() as u64;

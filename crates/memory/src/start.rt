@@ -2,7 +2,7 @@
 ghost use Rattle.std.specs.Prelude.{◌≡◌, List, length};
 ghost use Rattle.plain.specs.declared.types.Call.{Call};
 ghost use Rattle.plain.specs.Guarantee.{Safe};
-ghost use Rattle.plain.specs.Memory.{started, usable as usable-count};
+ghost use Rattle.plain.specs.Memory.{started, usable as usable_count};
 ghost use Rattle.memory.specs.Of.{plain};
 
 use crate::memory::Memory;
@@ -40,7 +40,7 @@ impl<'a, F: Format, S: Store> Memory<'a, F, S> {
 
     /// How many granules are usable: those that end within the span.
     pub fn usable(&self) -> u32
-        ensures { result ≡ usable-count F.Format.meaning (plain S.Store.origin S.Store.cells self.now).first (plain S.Store.origin S.Store.cells self.now).cells }
+        ensures { result ≡ usable_count F.Format.meaning (plain S.Store.origin S.Store.cells self.now).first (plain S.Store.origin S.Store.cells self.now).cells }
     {
         slots::reads::usable::<F, S>(self.store)
     }

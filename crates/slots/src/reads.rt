@@ -1,7 +1,7 @@
 //! What the calls ask before they act.
 ghost use Rattle.std.specs.Prelude.{◌≡◌, ◌<◌};
 ghost use Rattle.plain.specs.Blocks.{lookup as place_of};
-ghost use Rattle.plain.specs.Memory.{slot_count, tagged_in, inside as lies-inside, usable as usable-count, is_width as width-allowed, place_condemned, word_condemned, spared as spared-tag, is_global, pointed as pointed-at};
+ghost use Rattle.plain.specs.Memory.{slot_count, tagged_in, inside as lies_inside, usable as usable_count, is_width as width_allowed, place_condemned, word_condemned, spared as spared_tag, is_global, pointed as pointed_at};
 ghost use Rattle.table.specs.Recorded.{recorded};
 
 use crate::slots::Slots;
@@ -29,21 +29,21 @@ pub fn tagged_in<F: Format>(slots: &Slots, a: u32) -> Result<Capability, Refusal
 
 // Whether n bytes from x on are all inside the bounds.
 pub fn inside(c: Capability, x: u32, n: u64) -> bool
-    ensures { result ≡ lies-inside c x n }
+    ensures { result ≡ lies_inside c x n }
 {
     c.base <= x && x as u128 + n as u128 <= c.top as u128
 }
 
 // Whether a load or a store may be so wide.
 pub fn is_width(n: u32) -> bool
-    ensures is { result ≡ width-allowed n }
+    ensures is { result ≡ width_allowed n }
 {
     n == 1 || n == 2 || n == 4 || n == 8
 }
 
 // How many granules are usable.
 pub fn usable<F: Format, S: Store>(store: &S) -> u32
-    ensures is { result ≡ usable-count F.Format.meaning (S.Store.origin store.now) (S.Store.cells store.now) }
+    ensures is { result ≡ usable_count F.Format.meaning (S.Store.origin store.now) (S.Store.cells store.now) }
 {
     let within = (F::limit() / 8).saturating_sub(store.first() as u64);
     within.min(store.count() as u64) as u32
@@ -71,7 +71,7 @@ pub fn condemned<F: Format>(table: &Table, word: u64) -> bool
 
 // A tag, but not that of a condemned block's word.
 pub fn spared<F: Format>(table: &Table, word: u64, tag: bool) -> bool
-    ensures { result ≡ spared-tag F.Format.meaning (recorded table.now) word tag }
+    ensures { result ≡ spared_tag F.Format.meaning (recorded table.now) word tag }
 {
     tag && !condemned::<F>(table, word)
 }
@@ -88,7 +88,7 @@ pub fn global<F: Format>(word: u64) -> bool
 
 // The granule at the address of a capability.
 pub fn pointed<S: Store>(store: &S, c: Capability) -> Result<u32, Refusal>
-    ensures { result ≡ pointed-at (S.Store.origin store.now) c }
+    ensures { result ≡ pointed_at (S.Store.origin store.now) c }
 {
     if c.address % 8 != 0 {
         return Err(Refusal::Misaligned);

@@ -1,7 +1,7 @@
 -- A whole run: from the bytes of an input to the bytes that answer them.
 use Rattle.std.specs.Prelude.{◌≡◌, ℕ, ◌+◌, cond, List, [], ◌∷◌, ◌++◌, length, Ok, Err, Result, OnOk, nat_lt}
 use Rattle.capability.specs.Formats.{Meaning}
-use Rattle.capability.specs.Refusals.{number as refusal-number}
+use Rattle.capability.specs.Refusals.{number as refusal_number}
 use Rattle.capability.specs.declared.refusal.Refusal.{Refusal}
 use Rattle.capability.specs.declared.refusal.Refusal.TheVariants.{InputTooLong}
 use Rattle.compact.specs.Compact.{compact}
@@ -23,12 +23,12 @@ Appends r before after text = OnOk r (after ≡ before ++ text)
 
 -- the answer line of a fault: its refusal, and the number that goes with it
 abbrev pub fault_line : ℕ → Fault → List ℕ
-fault_line k f = answer_line k (refusal-number f.refusal) f.answer
+fault_line k f = answer_line k (refusal_number f.refusal) f.answer
 
 -- the answer line of a call: refusal 0 and its answer, or its refusal and answer 0
 abbrev pub outcome_line : ℕ → Result ℕ Refusal → List ℕ
 outcome_line k (Ok n) = answer_line k 0 n
-outcome_line k (Err e) = answer_line k (refusal-number e) 0
+outcome_line k (Err e) = answer_line k (refusal_number e) 0
 
 -- what is written for line k, by the memory before it: a remark is written back
 abbrev pub reply_to : Meaning → Plain → ℕ → Said → List ℕ
@@ -72,4 +72,4 @@ run_of (line ∷ ls) = headed (heading_in line) ls
 
 -- what is written for an input: one of more than 65,536 bytes gets a lone line numbered 0
 abbrev pub transcribed : List ℕ → List ℕ
-transcribed input = cond (nat_lt 65536 (length input)) (answer_line 0 (refusal-number InputTooLong) 0) (run_of (lines input))
+transcribed input = cond (nat_lt 65536 (length input)) (answer_line 0 (refusal_number InputTooLong) 0) (run_of (lines input))
