@@ -1,9 +1,8 @@
 -- Units, and where usable granules end. Assumes nothing.
-use Rattle.std.proofs.Common.{◌≡◌, ℕ, suc, ◌+◌, ◌-◌, ◌*◌, ◌/◌, ◌%◌, ◌^◌, ◌<◌, ◌≤◌, min, Bool, true, false, cond, ◌&&◌, leb, List, length, Ok, Err, Result, sym, refl, ap, ◌∙◌, arith, pow_pos, pow_mono, pow-add}
+use Rattle.std.proofs.Common.{◌≡◌, ℕ, ◌+◌, ◌-◌, ◌*◌, ◌/◌, ◌%◌, ◌^◌, ◌<◌, ◌≤◌, Bool, true, false, cond, ◌&&◌, leb, List, Ok, Err, refl, ap, ◌∙◌, arith, pow_pos, pow_mono, pow-add}
 use Rattle.std.proofs.lemmas.Bool.{and_parts, leb-true}
 use Rattle.std.proofs.lemmas.Nat.{div-add-mod'}
-use Rattle.capability.specs.declared.refusal.Refusal.{Refusal}
-use Rattle.capability.specs.Formats.{Meaning, Lawful, UnitOf, rounded, unit_for}
+use Rattle.capability.specs.Formats.{Meaning, Lawful, rounded, unit_for}
 use Rattle.store.specs.Cells.{Cell}
 use Rattle.plain.specs.Memory.{usable}
 use Rattle.table.proofs.Rooms.{multiple_past, multiple_near, multiple_even}

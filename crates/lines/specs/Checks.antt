@@ -1,5 +1,5 @@
 -- The checks of a line's fields.
-use Rattle.std.specs.Prelude.{◌≡◌, ℕ, ◌<◌, ◌≤◌, Bool, true, false, cond, not, ◌&&◌, List, length, is_some, Some, None, Ok, Err, Option, Result, nat_lt}
+use Rattle.std.specs.Prelude.{ℕ, ◌<◌, ◌≤◌, Bool, true, false, cond, not, ◌&&◌, List, length, is_some, Some, None, Ok, Err, Option, Result, nat_lt}
 use Rattle.std.specs.Option.{ok_or}
 use Rattle.capability.specs.declared.refusal.Refusal.{Refusal}
 use Rattle.capability.specs.declared.refusal.Refusal.TheVariants.{LineLength, FieldForm, NumberTooLarge, FieldMissing, FieldUnneeded}

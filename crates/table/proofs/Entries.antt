@@ -1,9 +1,9 @@
 -- The blocks on record, as lists. Assumes nothing.
-use Rattle.std.proofs.Common.{◌≡◌, ℕ, ◌+◌, ◌-◌, ◌<◌, ◌≤◌, Bool, not, ltb, leb, List, [], ◌∷◌, ◌++◌, map, length, get_or, take, set, sum_by, sym, refl, ap, ◌∙◌, ⊎_elim, arith}
+use Rattle.std.proofs.Common.{◌≡◌, ℕ, ◌+◌, ◌-◌, ◌<◌, ◌≤◌, not, ltb, leb, List, [], ◌∷◌, ◌++◌, map, length, get_or, take, set, sum_by, sym, ap, ◌∙◌, ⊎_elim, arith}
 use Rattle.std.proofs.lemmas.Bool.{cases_lt, lt-ltb, le-ltb, le-leb, lt-leb}
-use Rattle.std.proofs.lemmas.List.{map_more, map_push, map-set, get_or-map, get_or-take, length-map, length-take-le, take_more_set, take-map}
+use Rattle.std.proofs.lemmas.List.{map_more, map_push, get_or-map, get_or-take, length-map, length-take-le, take_more_set}
 use Rattle.std.proofs.lemmas.List.Sums.{sum_by_push}
-use Rattle.plain.specs.Blocks.{Entry, entry_at, size_of}
+use Rattle.plain.specs.Blocks.{entry_at, size_of}
 use Rattle.table.specs.declared.block.Block.{Block}
 use Rattle.table.specs.Recorded.{entry}
 

@@ -1,13 +1,12 @@
 -- Blocks that turn, and blocks that leave. Assumes nothing.
-use Rattle.std.proofs.Common.{◌≡◌, ℕ, suc, ◌+◌, ◌-◌, ◌<◌, ◌≤◌, Bool, true, false, cond, not, List, [], ◌∷◌, ◌++◌, map, length, get_or, take, drop, set, sum_by, count_by, filter, sym, refl, ap, ◌∙◌, arith}
+use Rattle.std.proofs.Common.{◌≡◌, ℕ, ◌+◌, ◌-◌, ◌<◌, Bool, true, false, cond, List, [], ◌∷◌, ◌++◌, map, length, get_or, take, sum_by, count_by, filter, refl, ap, ◌∙◌, arith}
 use Rattle.std.proofs.lemmas.List.{map-set, take-map, take-set}
 use Rattle.std.proofs.lemmas.List.Sums.{sum_by_push}
 use Rattle.std.proofs.lemmas.List.Elements.{filter-append}
-use Rattle.plain.specs.Blocks.{Entry, entry_at, size_of, is_condemned, in_state}
-use Rattle.plain.specs.declared.types.State.TheVariants.{Freed}
+use Rattle.plain.specs.Blocks.{Entry, size_of}
 use Rattle.table.specs.declared.block.Block.{Block}
 use Rattle.table.specs.Recorded.{entry}
-use Rattle.table.proofs.Entries.{entries_more, entry_got}
+use Rattle.table.proofs.Entries.{entries_more}
 
 pub kept_map : (p : Entry → Bool) (bs : List Block) → map entry (filter (λ b. p (entry b)) bs) ≡ filter p (map entry bs)
 kept_map p [] = refl

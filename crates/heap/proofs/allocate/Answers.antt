@@ -1,4 +1,4 @@
-use Rattle.std.proofs.Common.{◌≡◌, ℕ, ◌+◌, ◌%◌, ◌<◌, ◌≤◌, sym, ap, ◌∙◌, arith}
+use Rattle.std.proofs.Common.{◌≡◌, ℕ, ◌%◌, ap, ◌∙◌, arith}
 use Rattle.heap.proofs.Units.{given_unit, rounded_size, sum_granules}
 use Rattle.heap.proofs.allocate.Goals as goal
 

@@ -1,4 +1,4 @@
-use Rattle.std.proofs.Common.{◌≡◌, ℕ, ◌+◌, ◌*◌, ◌<◌, ◌≤◌, ap, ◌∙◌, arith, rules}
+use Rattle.std.proofs.Common.{◌+◌, ◌<◌, ◌≤◌, arith, rules}
 use Rattle.plain.specs.Memory.{usable}
 use Rattle.heap.proofs.Units.{usable_ends}
 use Rattle.heap.proofs.place_for.Goals as goal

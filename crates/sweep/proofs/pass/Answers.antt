@@ -1,4 +1,4 @@
-use Rattle.std.proofs.Common.{◌≡◌, ℕ, ◌≤◌, Bool, true, false, not, ◌&&◌, List, set, sym, refl, ap, ◌∙◌, arith}
+use Rattle.std.proofs.Common.{◌≡◌, Bool, false, not, ◌&&◌, List, set, sym, refl, ap, ◌∙◌, arith}
 use Rattle.store.specs.Cells.{Cell, cell}
 use Rattle.stored_bytes.specs.Bytes.{renewed}
 use Rattle.stored_bytes.proofs.Renewed.{renewed_none, renewed_here, renewed_more, renewed_same}

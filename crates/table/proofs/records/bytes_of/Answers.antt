@@ -1,4 +1,4 @@
-use Rattle.std.proofs.Common.{◌≡◌, ℕ, ◌+◌, ◌-◌, ◌*◌, ◌≤◌, List, map, take, sum_by, ap, ◌∙◌, arith}
+use Rattle.std.proofs.Common.{List, map, sum_by, ap, ◌∙◌, arith}
 use Rattle.std.proofs.lemmas.List.{take_all}
 use Rattle.plain.specs.Blocks.{size_of}
 use Rattle.table.specs.declared.block.Block.{Block}

@@ -1,4 +1,4 @@
-use Rattle.std.proofs.Common.{◌≡◌, ℕ, ◌+◌, Bool, cond, List, map, sum_by, filter, sym, ap, ◌∙◌, arith}
+use Rattle.std.proofs.Common.{List, map, sum_by, filter, sym, ap, ◌∙◌, arith}
 use Rattle.std.proofs.lemmas.List.{take_all}
 use Rattle.plain.specs.Blocks.{is_condemned, size_of}
 use Rattle.table.specs.declared.block.Block.{Block}

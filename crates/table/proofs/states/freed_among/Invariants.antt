@@ -1,5 +1,5 @@
-use Rattle.std.proofs.Common.{◌≡◌, ◌*◌, ◌^◌, ◌≤◌, map, take, sum_by, count_by, filter}
-use Rattle.plain.specs.Blocks.{size_of, is_freed, is_condemned}
+use Rattle.std.proofs.Common.{◌≡◌, ◌≤◌, map, take, count_by}
+use Rattle.plain.specs.Blocks.{is_freed}
 use Rattle.table.specs.Recorded.{entry}
 use Rattle.table.proofs.states.freed_among.Given as goal
 

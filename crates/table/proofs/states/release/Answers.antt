@@ -1,4 +1,4 @@
-use Rattle.std.proofs.Common.{◌≡◌, map, set, sym, ap, ◌∙◌}
+use Rattle.std.proofs.Common.{map, set, ap, ◌∙◌}
 use Rattle.std.proofs.lemmas.List.{map-set}
 use Rattle.plain.specs.Blocks.{Entry, in_state}
 use Rattle.plain.specs.declared.types.State.TheVariants.{Freed}

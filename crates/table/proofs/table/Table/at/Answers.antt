@@ -1,4 +1,4 @@
-use Rattle.std.proofs.Common.{◌≡◌, ℕ, ◌<◌, ◌≤◌, length, sym, ap, ◌∙◌, arith}
+use Rattle.std.proofs.Common.{ℕ, ◌<◌, ◌≤◌, length, sym, ap, ◌∙◌, arith}
 use Rattle.table.specs.declared.table.Table.{Table}
 use Rattle.table.specs.Recorded.{entry, recorded}
 use Rattle.table.proofs.Entries.{length_entries, entry_taken}

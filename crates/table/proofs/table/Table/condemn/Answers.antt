@@ -1,9 +1,9 @@
-use Rattle.std.proofs.Common.{◌≡◌, ℕ, ◌+◌, ◌-◌, ◌<◌, ◌≤◌, List, ◌++◌, map, length, take, drop, set, count_by, sym, ap, ◌∙◌, arith}
+use Rattle.std.proofs.Common.{◌≡◌, ℕ, ◌-◌, ◌<◌, ◌≤◌, ◌++◌, map, length, take, drop, set, count_by, sym, ap, ◌∙◌, arith}
 use Rattle.std.proofs.lemmas.List.{take-map, map-set, length-map, take_at, length-take-le, get_or-map}
 use Rattle.std.proofs.lemmas.List.Edits.{map_over_more}
 use Rattle.plain.specs.Blocks.{Entry, is_freed, in_state, opened_state}
 use Rattle.plain.specs.Memory.{opened}
-use Rattle.table.specs.Recorded.{entry, recorded}
+use Rattle.table.specs.Recorded.{entry}
 use Rattle.table.proofs.table.Table.condemn.Goals as goal
 
 abbrev open_entry : Entry → Entry

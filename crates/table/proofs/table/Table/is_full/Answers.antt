@@ -1,4 +1,4 @@
-use Rattle.std.proofs.Common.{◌≡◌, ℕ, ◌≤◌, not, ltb, length, sym, ap, ◌∙◌, arith}
+use Rattle.std.proofs.Common.{ℕ, ◌≤◌, not, ltb, length, sym, ap, ◌∙◌, arith}
 use Rattle.table.proofs.Entries.{length_entries, not_below}
 use Rattle.table.proofs.table.Table.is_full.Goals as goal
 
