@@ -27,8 +27,8 @@ def main():
         crate, name = path.split(os.sep)[-3], os.path.basename(path)[:-5]
         text = open(path, encoding="utf-8").read()
         file = re.search(r"^file: (.*)$", text, re.M).group(1)
-        old = re.search(r"^old: ?(.*)$", text, re.M).group(1)
-        new = re.search(r"^new: ?(.*)$", text, re.M).group(1)
+        pairs = re.findall(r"^old: ?(.*)\nnew: ?(.*)$", text, re.M)
+        old, new = ("; ".join(cell(pair[i]) for pair in pairs) for i in (0, 1))
         why = said.get((crate, name))
         if why is None:
             goal = "not seen"
@@ -41,7 +41,7 @@ def main():
             else:
                 place = re.search(r"(src/[\w/]+\.rt):(\d+)", why)
                 goal += " of `" + function_at(os.path.join(TOP, crate, place.group(1)), int(place.group(2))) + "`" if place else ""
-        print(f"| {crate} | {name} | {file} | {cell(old)} | {cell(new)} | {goal} |")
+        print(f"| {crate} | {name} | {file} | {old} | {new} | {goal} |")
 
 
 def function_at(path, line):
