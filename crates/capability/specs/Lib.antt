@@ -1,3 +1,4 @@
 pub mod Rights
 pub mod Refusals
 pub mod Formats
+pub mod Fields

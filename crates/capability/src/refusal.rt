@@ -1,6 +1,8 @@
 //! Every refusal there is.
-ghost use Rattle.std.specs.Prelude.{◌≡◌};
+ghost use Rattle.std.specs.Prelude.{◌≡◌, Some, decimal};
 ghost use Rattle.capability.specs.Refusals.{number as numbered};
+
+use std::fmt;
 
 /// Why a line, a call, a store or a format refuses. A refusal leaves everything as it was.
 #[derive(Clone, Copy, PartialEq, Eq, Debug)]
@@ -55,11 +57,20 @@ pub enum Refusal {
     NotCapability = 32,
 }
 
-impl Refusal {
-    /// The number that an answer line shows.
-    pub fn number(self) -> u8
-        ensures { result ≡ numbered self }
-    {
-        self as u8
+/// The number that an answer line shows.
+impl From<Refusal> for u8 {
+    ghost from_gives = { λ refusal number. number ≡ numbered refusal };
+
+    fn from(refusal: Refusal) -> u8 {
+        refusal as u8
+    }
+}
+
+/// A refusal is printed as its number.
+impl fmt::Display for Refusal {
+    ghost output = { λ refusal. Some (decimal (numbered refusal)) };
+
+    fn fmt<W: fmt::Write>(&self, f: &mut fmt::Formatter<W>) -> fmt::Result {
+        u8::from(*self).fmt(f)
     }
 }

@@ -13,14 +13,17 @@ pub enum Right {
     StoreLocal = 32,
 }
 
-impl Right {
-    /// The number that stands for the right in a sum.
-    pub fn number(self) -> u8
-        ensures { result ≡ weight self }
-    {
-        self as u8
+/// The number that stands for the right in a sum.
+impl From<Right> for u8 {
+    ghost from_gives = { λ right number. number ≡ weight right };
+
+    fn from(right: Right) -> u8 {
+        right as u8
     }
 }
+
+/// The sum of all the rights.
+pub const ALL_RIGHTS: u8 = 63;
 
 /// The bytes from `base` to `top - 1`, an address, and rights.
 #[derive(Clone, Copy, PartialEq, Eq, Debug)]
@@ -28,6 +31,7 @@ pub struct Capability {
     pub base: u32,
     pub top: u32,
     pub address: u32,
+    // A sum of rights and no set of them: any number can be asked for, and a format refuses what is no such sum.
     pub rights: u8,
 }
 
@@ -36,6 +40,6 @@ impl Capability {
     pub fn has(self, right: Right) -> bool
         ensures { result ≡ permits right self }
     {
-        self.rights / right.number() % 2 == 1
+        self.rights / u8::from(right) % 2 == 1
     }
 }

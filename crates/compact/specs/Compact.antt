@@ -1,5 +1,6 @@
 -- The compact format: bounds by an exponent and nine bits each, beside an address of 32 bits.
 use Rattle.std.specs.Prelude.{ℕ, ◌+◌, ◌-◌, ◌*◌, ◌/◌, ◌%◌, ◌^◌, Bool, false, cond, ◌&&◌, Some, None, Option, ◌==◌, nat_le, nat_lt}
+use Rattle.capability.specs.Fields.{field}
 use Rattle.capability.specs.Formats.{Meaning}
 use Rattle.capability.specs.declared.types.Capability.{Capability}
 use Rattle.compact.specs.Exponents.{exponent_of, unit_exponent_of}
@@ -25,10 +26,6 @@ word_at e c = cond (carries e c) (Some (packed e c)) None
 -- a capability's word
 unfoldable pub word : Capability → Option ℕ
 word c = word_at (exponent_of c.base c.top) c
-
--- the number in so many bits of a word, from a lowest bit on
-abbrev pub field : ℕ → ℕ → ℕ → ℕ
-field w low count = w / 2 ^ low % 2 ^ count
 
 -- the base in units: the last number up to the address that ends in these nine bits (where there is none it is 0, which ends
 -- in others, and the word reads as nothing)

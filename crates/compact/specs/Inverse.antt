@@ -1,10 +1,10 @@
 -- Reading undoes writing: for every exponent together.
 use Rattle.std.specs.Prelude.{◌≡◌, ℕ, ◌+◌, ◌-◌, ◌*◌, ◌/◌, ◌%◌, ◌^◌, ◌<◌, ◌≤◌, true}
-use Rattle.std.proofs.Common.{ap, ◌∙◌, ⊎_elim, add-mul, arith, rules}
-use Rattle.std.proofs.lemmas.Nat.{pow_pos, pow-add, div-add-mod', mul-le, div_below, le-div}
-use Rattle.std.proofs.lemmas.Bool.{cases_lt, and_from, lt-ltb, le-leb}
+use Rattle.std.proofs.Common.{ap, ◌∙◌, add-mul, lt_of_mul-lt-mul_right, arith, rules}
+use Rattle.std.proofs.lemmas.Nat.{pow_pos, pow-add, div-add-mod', div_below, le-div}
+use Rattle.capability.specs.Fields.{field}
 use Rattle.capability.specs.declared.types.Capability.{Capability}
-use Rattle.compact.specs.Compact.{carries, nine_bits, packed, field, base_units, top_units, located, unpacked}
+use Rattle.compact.specs.Compact.{carries, nine_bits, packed, base_units, top_units, located, unpacked}
 
 -- what a carried capability is known by
 pub record Carried (e : ℕ) (c : Capability) : Type 0 where
@@ -38,9 +38,7 @@ pub carries_from : (e : ℕ) (c : Capability) → Carried e c → carries e c �
 carries_from e c f =
     let p = nine e in
     let n : c.address < c.base + 2 ^ (e + 9) = omega arith in
-    and_from _ _ (and_from _ _ (and_from _ _ (and_from _ _ (and_from _ _ (and_from _ _
-    (lt-ltb _ _ f.some) (le-leb _ _ f.within)) (le-leb _ _ f.short)) (le-leb _ _ f.from))
-    (lt-ltb _ _ n)) (lt-ltb _ _ f.word)) (le-leb _ _ f.rights)
+    search rules
 
 -- five fields side by side, and what is read from them
 module _ (a l h e r : ℕ) (fa : a < 2 ^ 32) (fl : l < 512) (fh : h < 512) (fe : e ≤ 14) (fr : r ≤ 63) where
@@ -66,7 +64,7 @@ module _ (a l h e r : ℕ) (fa : a < 2 ^ 32) (fl : l < 512) (fh : h < 512) (fe :
   fields_fit = omega arith
 
   -- as the code shifts them
-  pub shifted : a + (l * 2 ^ 32 % 2 ^ 64 + h * 2 ^ 41 % 2 ^ 64 + e * 2 ^ 50 % 2 ^ 64) + r * 2 ^ 54 % 2 ^ 64
+  pub shifted : a * 2 ^ 0 % 2 ^ 64 + l * 2 ^ 32 % 2 ^ 64 + h * 2 ^ 41 % 2 ^ 64 + e * 2 ^ 50 % 2 ^ 64 + r * 2 ^ 54 % 2 ^ 64
       ≡ a * 2 ^ 0 + l * 2 ^ 32 + h * 2 ^ 41 + e * 2 ^ 50 + r * 2 ^ 54
   shifted = omega arith
 
@@ -95,20 +93,16 @@ module _ (e : ℕ) (c : Capability) (db : c.base % 2 ^ e ≡ 0) (dt : c.top % 2 
       div_below c.address (2 ^ e) (c.base / 2 ^ e + 512) (pow_pos e) (omega arith)
 
   some : c.base / 2 ^ e < c.top / 2 ^ e
-  some = ⊎_elim (λ l. l)
-      (λ l. let i = base_whole in let j = top_whole in
-      let m = mul-le (c.top / 2 ^ e) (2 ^ e) (c.base / 2 ^ e) (2 ^ e) l (omega arith) in absurd (omega arith))
-      (cases_lt (c.base / 2 ^ e) (c.top / 2 ^ e))
+  some = let i = base_whole in let j = top_whole in lt_of_mul-lt-mul_right (2 ^ e) (let k : c.base / 2 ^ e * 2 ^ e < c.top / 2 ^ e * 2 ^ e = omega arith in k)
 
   short : c.top / 2 ^ e ≤ c.base / 2 ^ e + 511
-  short = ⊎_elim
-      (λ l. let i = base_whole in let j = top_whole in
-      let k : c.base / 2 ^ e + 512 ≤ c.top / 2 ^ e = omega arith in
-      let m = mul-le (c.base / 2 ^ e + 512) (2 ^ e) (c.top / 2 ^ e) (2 ^ e) k (omega arith) in
+  short =
+      let i = base_whole in
+      let j = top_whole in
       let s = add-mul (c.base / 2 ^ e) 512 (2 ^ e) in
-      let p = pow_pos e in absurd (omega arith))
-      (λ l. l)
-      (cases_lt (c.base / 2 ^ e + 511) (c.top / 2 ^ e))
+      let p = pow_pos e in
+      let k = lt_of_mul-lt-mul_right (2 ^ e) (let k : c.top / 2 ^ e * 2 ^ e < (c.base / 2 ^ e + 512) * 2 ^ e = omega arith in k) in
+      omega arith
 
   -- its fields say the capability
   located_is : located c.address (nine_bits e c.base) (nine_bits e c.top) e c.rights ≡ c

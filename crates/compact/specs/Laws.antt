@@ -1,24 +1,15 @@
 -- The words of the compact format: what write gives, and that read and write undo each other.
-use Rattle.std.specs.Prelude.{◌≡◌, ℕ, ◌^◌, ◌<◌, ◌≤◌, Bool, true, false, cond, is_some, Some, None, Option, ◌≢◌, refl}
+use Rattle.std.specs.Prelude.{◌≡◌, ℕ, ◌^◌, ◌<◌, ◌≤◌, true, false, is_some, Some, None, Option, ◌≢◌, refl}
 use Rattle.std.proofs.Common.{sym, ap, ◌∙◌, ⊎_elim, arith}
+use Rattle.std.proofs.lemmas.Option.{cond_some}
 use Rattle.std.proofs.lemmas.Bool.{cases_Bool, cond-true, cond-false, eq-eqb, eqb-true, both_ways}
+use Rattle.capability.specs.Fields.{field}
 use Rattle.capability.specs.Formats.{with_rights}
 use Rattle.capability.specs.declared.types.Capability.{Capability}
 use Rattle.compact.specs.Exponents.{exponent_of}
-use Rattle.compact.specs.Compact.{carries, nine_bits, packed, word_at, word, field, unpacked, is, capability}
+use Rattle.compact.specs.Compact.{carries, nine_bits, packed, word_at, word, unpacked, is, capability}
 use Rattle.compact.specs.Powers.{exponent_is}
 use Rattle.compact.specs.Inverse.{Carried, carried, carries_from, get_low, get_high, get_exponent, unpacked_packed, packed_fits}
-
-none_some : {X : Type 0} (x : X) → ◌≡◌ {A = Option X} None (Some x) → ⊥
-none_some x p = let z : ◌≡◌ {A = ℕ} 0 1 = cc in omega arith
-
-some_same : {X : Type 0} (x y : X) → ◌≡◌ {A = Option X} (Some x) (Some y) → x ≡ y
-some_same x y p = cc
-
--- an optional value that is there: its test holds, and it is the value
-some_test : {X : Type 0} (b : Bool) (x y : X) → cond b (Some x) None ≡ Some y → (b ≡ true) × (x ≡ y)
-some_test true x y h = (refl, some_same x y h)
-some_test false x y h = absurd (none_some y h)
 
 -- what write answers, with the exponent in hand
 pub word_given : (e : ℕ) (c : Capability) → e ≡ exponent_of c.base c.top → carries e c ≡ true → word c ≡ Some (packed e c)
@@ -33,7 +24,7 @@ word_refused e c s h = ap (λ n. word_at n c) (sym s) ∙ cond-false _ _ _ h
 pub known : (c : Capability) (w : ℕ) → word c ≡ Some w → Carried (exponent_of c.base c.top) c × (packed (exponent_of c.base c.top) c ≡ w)
 unfolding word
 known c w h =
-    let t = some_test (carries (exponent_of c.base c.top) c) (packed (exponent_of c.base c.top) c) w h in
+    let t = cond_some (carries (exponent_of c.base c.top) c) (packed (exponent_of c.base c.top) c) w h in
     (carried (exponent_of c.base c.top) c t.0, t.1)
 
 pub present : (c : Capability) → Carried (exponent_of c.base c.top) c → is_some (word c) ≡ true
@@ -105,5 +96,5 @@ read_write c w h =
 pub write_read : (c : Capability) (w : ℕ) → capability w ≡ Some c → word c ≡ Some w
 unfolding capability
 write_read c w h =
-    let t = some_test (is (word (unpacked w)) w) (unpacked w) c h in
+    let t = cond_some (is (word (unpacked w)) w) (unpacked w) c h in
     ap word (sym t.1) ∙ is_same (word (unpacked w)) w t.0

@@ -3,6 +3,7 @@ ghost use Rattle.std.specs.Prelude.{◌≡◌, ◌*◌, ◌^◌, ◌&&◌, if◌
 ghost use Rattle.capability.specs.declared.refusal.Refusal.TheVariants.{BadParameter};
 ghost use Rattle.compact.specs.Exponents.{IsExponent, exponent_of, IsUnitExponent, unit_exponent_of};
 
+use capability::format::LARGEST;
 use capability::refusal::Refusal;
 
 /// The largest exponent.
@@ -10,9 +11,6 @@ const MOST: u32 = 14;
 
 /// The least exponent of a unit.
 const LEAST: u32 = 3;
-
-/// The largest size that has a unit.
-const LARGEST: u32 = 65536;
 
 /// The most units of 2^e that bounds with the exponent e are apart.
 pub const LONGEST: u64 = 511;
@@ -44,9 +42,7 @@ pub fn unit_exponent(size: u32) -> Result<u32, Refusal>
     if !(1..=LARGEST).contains(&size) {
         return Err(Refusal::BadParameter);
     }
-    let mut e = LEAST;
-    while size as u64 > LONGEST << e {
-        e += 1;
-    }
-    Ok(e)
+    (LEAST..=MOST)
+        .find(|e| size as u64 <= LONGEST << *e)
+        .ok_or(Refusal::BadParameter)
 }

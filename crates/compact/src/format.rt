@@ -1,39 +1,60 @@
 //! Words of the compact format.
-ghost use Rattle.std.specs.Prelude.{◌≡◌, ◌≤◌};
+ghost use Rattle.std.specs.Prelude.{◌≡◌, ◌≤◌, refl};
 ghost use Rattle.compact.specs.Compact.{compact, carries};
 ghost use Rattle.compact.specs.Units;
 
 use crate::exponents::{LONGEST, exponent, is_exponent, unit_exponent};
+use capability::field::Field;
 use capability::format::Format;
 use capability::refusal::Refusal;
-use capability::types::Capability;
+use capability::types::{ALL_RIGHTS, Capability};
 
-/// The bit where the field of the base begins.
-const BASE: u32 = 32;
+/// The field of the address.
+pub const ADDRESS: Field = Field {
+    low: 0,
+    largest: 4294967295,
+};
 
-/// The bit where the field of the top begins.
-const TOP: u32 = 41;
+/// The field of the nine bits of the base.
+pub const BASE: Field = Field {
+    low: 32,
+    largest: 511,
+};
 
-/// The bit where the field of the exponent begins.
-const EXPONENT: u32 = 50;
+/// The field of the nine bits of the top.
+pub const TOP: Field = Field {
+    low: 41,
+    largest: 511,
+};
 
-/// The bit where the field of the rights begins.
-const RIGHTS: u32 = 54;
+/// The field of the exponent.
+pub const EXPONENT: Field = Field {
+    low: 50,
+    largest: 15,
+};
 
-/// The bit where the last field ends.
-const END: u32 = 60;
+/// The field of the rights.
+pub const RIGHTS: Field = Field {
+    low: 54,
+    largest: 63,
+};
+
+/// The bits above the rights, which are zero.
+pub const ABOVE: Field = Field {
+    low: 60,
+    largest: 15,
+};
 
 /// One more than the largest number that nine bits hold.
 const NINE: u64 = 512;
 
-/// One more than the largest address.
-const ADDRESSES: u64 = 4294967296;
-
 /// Bounds near the address, as far apart and as fine as their exponent allows.
 #[derive(Drop)]
-pub struct Compact {}
+pub struct Compact;
 
 /// Whether the format carries a capability whose bounds have this exponent.
+// Three of the six tests are the other format's too. Shared, they would be a function of a span and a capability that the definition
+// of neither format names.
 fn carried(c: Capability, e: u32) -> bool
     requires { e ≤ 14 }
     ensures { result ≡ carries e c }
@@ -43,19 +64,19 @@ fn carried(c: Capability, e: u32) -> bool
         && (c.top - c.base) as u64 <= LONGEST << e
         && c.base <= c.address
         && (c.address as u64) < c.base as u64 + (1 << (e + 9))
-        && c.rights <= 63
+        && c.rights <= ALL_RIGHTS
 }
 
 impl Format for Compact {
     const SPAN: u64 = 4294967288;
 
+    ghost SPAN = { 4294967288 };
+
     ghost meaning = { compact };
 
-    ghost lawful = { Units.lawful };
+    ghost spans = { refl };
 
-    fn limit() -> u64 {
-        Self::SPAN
-    }
+    ghost lawful = { Units.lawful };
 
     fn write(c: Capability) -> Result<u64, Refusal> {
         let e = exponent(c.base, c.top);
@@ -64,20 +85,25 @@ impl Format for Compact {
         }
         let low = (c.base as u64 >> e) % NINE;
         let high = (c.top as u64 >> e) % NINE;
-        let ends = (low << BASE) + (high << TOP) + ((e as u64) << EXPONENT);
-        Ok(c.address as u64 + ends + ((c.rights as u64) << RIGHTS))
+        Ok(
+            ADDRESS.put(c.address as u64)
+                + BASE.put(low)
+                + TOP.put(high)
+                + EXPONENT.put(e as u64)
+                + RIGHTS.put(c.rights as u64),
+        )
     }
 
     fn read(word: u64) -> Result<Capability, Refusal> {
-        let e = ((word >> EXPONENT) % 16) as u32;
-        let low = (word >> BASE) % NINE;
-        let high = (word >> TOP) % NINE;
-        let address = word % ADDRESSES;
+        let e = EXPONENT.of(word) as u32;
+        let low = BASE.of(word);
+        let high = TOP.of(word);
+        let address = ADDRESS.of(word);
         // In units of two to the exponent: the address, how far back the base is, and how far on the top is from there.
         let here = address >> e;
         let back = (here + NINE - low) % NINE;
         let length = (high + NINE - low) % NINE;
-        if word >> END > 0 || length == 0 || back > here {
+        if ABOVE.of(word) > 0 || length == 0 || back > here {
             return Err(Refusal::NotCapability);
         }
         let base = here - back;
@@ -89,7 +115,7 @@ impl Format for Compact {
             base: (base << e) as u32,
             top: (top << e) as u32,
             address: address as u32,
-            rights: (word >> RIGHTS) as u8,
+            rights: RIGHTS.of(word) as u8,
         })
     }
 

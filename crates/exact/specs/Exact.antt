@@ -1,11 +1,8 @@
 -- The exact format: a word holds base, top and address whole.
-use Rattle.std.specs.Prelude.{ℕ, ◌+◌, ◌-◌, ◌*◌, ◌/◌, ◌%◌, ◌^◌, Bool, cond, ◌&&◌, Some, None, ◌==◌, nat_le, nat_lt}
+use Rattle.std.specs.Prelude.{ℕ, ◌+◌, ◌-◌, ◌*◌, ◌/◌, ◌^◌, Bool, cond, ◌&&◌, Some, None, ◌==◌, nat_le, nat_lt}
+use Rattle.capability.specs.Fields.{field}
 use Rattle.capability.specs.Formats.{Meaning}
 use Rattle.capability.specs.declared.types.Capability.{Capability}
-
--- the number in so many bits of a word, from a lowest bit on
-abbrev pub field : ℕ → ℕ → ℕ → ℕ
-field w low count = w / 2 ^ low % 2 ^ count
 
 -- a capability is carried if base is less than top, top is at most 65,536, and address and rights fit their fields
 abbrev pub carries : Capability → Bool

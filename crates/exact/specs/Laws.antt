@@ -1,16 +1,13 @@
 -- The laws of the exact format.
-use Rattle.std.specs.Prelude.{◌≡◌, ℕ, ◌+◌, ◌-◌, ◌*◌, ◌/◌, ◌^◌, ◌<◌, ◌≤◌, Bool, true, false, cond, is_some, Some, None, nat_lt, refl}
+use Rattle.std.specs.Prelude.{◌≡◌, ℕ, ◌+◌, ◌-◌, ◌*◌, ◌/◌, ◌^◌, ◌<◌, ◌≤◌, true, is_some, Some, nat_lt, refl}
 use Rattle.std.proofs.Common.{sym, ap, ◌∙◌, arith, rules}
 use Rattle.std.proofs.lemmas.Nat.{shr-shr}
+use Rattle.std.proofs.lemmas.Option.{cond_some}
 use Rattle.std.proofs.lemmas.Bool.{cond-true, and_parts, and_from, eqb-true, eq-eqb, ltb-true, lt-ltb}
+use Rattle.capability.specs.Fields.{field}
 use Rattle.capability.specs.Formats.{Lawful, with_rights}
 use Rattle.capability.specs.declared.types.Capability.{Capability}
-use Rattle.exact.specs.Exact.{exact, field, carries, packed, unpacked, proper}
-
--- an optional value that is there: its test holds, and it is the value
-some_test : {X : Type 0} (b : Bool) (x y : X) → cond b (Some x) None ≡ Some y → (b ≡ true) × (x ≡ y)
-some_test true x y h = (refl, cc)
-some_test false x y h = let z : ◌≡◌ {A = ℕ} 0 1 = cc in absurd (omega arith)
+use Rattle.exact.specs.Exact.{exact, carries, packed, unpacked, proper}
 
 -- what a carried capability is known by
 record Carried (c : Capability) : Type 0 where
@@ -26,7 +23,7 @@ carries_from : (c : Capability) → Carried c → carries c ≡ true
 carries_from c f = search rules
 
 known : (c : Capability) (w : ℕ) → exact.word c ≡ Some w → Carried c × (packed c ≡ w)
-known c w h = let t = some_test (carries c) (packed c) w h in (carried c t.0, t.1)
+known c w h = let t = cond_some (carries c) (packed c) w h in (carried c t.0, t.1)
 
 present : (c : Capability) → Carried c → is_some (exact.word c) ≡ true
 present c f = ap is_some (cond-true _ _ _ (carries_from c f))
@@ -90,7 +87,7 @@ carries_unpacked w h =
 
 write_read : (c : Capability) (w : ℕ) → exact.capability w ≡ Some c → exact.word c ≡ Some w
 write_read c w h =
-    let t = some_test (proper w) (unpacked w) c h in
+    let t = cond_some (proper w) (unpacked w) c h in
     ap exact.word (sym t.1) ∙ cond-true _ _ _ (carries_unpacked w t.0) ∙ ap Some (packed_unpacked w t.0)
 
 bounds : (c : Capability) (w : ℕ) → exact.word c ≡ Some w → (c.base < c.top) × (c.top ≤ 65536)

@@ -1,75 +1,36 @@
 //! Reads and writes words of both formats, and prints what it found.
 #![tactic(auto)]
 
-ghost use Rattle.std.specs.Prelude.{◌≡◌, ◌<◌};
-ghost use Rattle.capability.specs.Formats.{rounded};
-ghost use Rattle.compact.specs.Compact.{field as part};
+ghost use Rattle.std.specs.Prelude.{◌≡◌};
+ghost use Rattle.capability.specs.Fields.{field};
 
+use capability::field::Field;
 use capability::format::Format;
-use capability::types::Capability;
-use compact::format::Compact;
+use capability::refusal::Refusal;
+use capability::types::{ALL_RIGHTS, Capability};
+use compact::format::{self, Compact};
 use exact::Exact;
-use std::io;
-use worked::ends::{Field, count_back};
+use std::{fmt, io};
+use worked::ends::count_back;
 
 /// The fields of a compact word: the address, the nine bits of base and of top, the exponent, the rights, and the bits above.
 const COMPACT: [Field; 6] = [
-    Field {
-        low: 0,
-        largest: 4294967295,
-    },
-    Field {
-        low: 32,
-        largest: 511,
-    },
-    Field {
-        low: 41,
-        largest: 511,
-    },
-    Field {
-        low: 50,
-        largest: 15,
-    },
-    Field {
-        low: 54,
-        largest: 63,
-    },
-    Field {
-        low: 60,
-        largest: 15,
-    },
+    format::ADDRESS,
+    format::BASE,
+    format::TOP,
+    format::EXPONENT,
+    format::RIGHTS,
+    format::ABOVE,
 ];
 
 /// The fields of an exact word: base, top - 1, the address, the rights, and the bits above.
 const EXACT: [Field; 5] = [
-    Field {
-        low: 0,
-        largest: 65535,
-    },
-    Field {
-        low: 16,
-        largest: 65535,
-    },
-    Field {
-        low: 32,
-        largest: 65535,
-    },
-    Field {
-        low: 48,
-        largest: 63,
-    },
-    Field {
-        low: 54,
-        largest: 1023,
-    },
+    exact::BASE,
+    exact::LAST,
+    exact::ADDRESS,
+    exact::RIGHTS,
+    exact::ABOVE,
 ];
-
-/// The exponent of a compact word, and the nine bits of its base and of its top.
-fn parts(word: u64) -> (u64, u64, u64)
-    ensures { result ≡ (part word 50 4, part word 32 9, part word 41 9) }
-{
-    ((word >> 50) % 16, (word >> 32) % 512, (word >> 41) % 512)
-}
 
 /// The capability with these bounds and this address, and every right.
 fn all_rights(base: u32, top: u32, address: u32) -> Capability
@@ -79,87 +40,132 @@ fn all_rights(base: u32, top: u32, address: u32) -> Capability
         base,
         top,
         address,
-        rights: 63,
+        rights: ALL_RIGHTS,
     }
 }
 
-/// Prints the fields of the compact word, or the refusal.
-fn show_compact(rt: &impl Print, base: u32, top: u32, address: u32) -> io::Result<()> {
-    match Compact::write(all_rights(base, top, address)) {
-        Ok(word) => {
-            let (e, low, high) = parts(word);
-            println!(rt;
-                "compact: base {base}, top {top}, address {address}: E {e}, B {low}, T {high}"
-            )
-        }
-        Err(refusal) => {
-            let number = refusal.number();
-            println!(rt; "compact: base {base}, top {top}, address {address}: refused, {number}")
+/// A capability, shown by its bounds and its address.
+#[derive(Drop)]
+struct Bounds(Capability);
+
+impl fmt::Display for Bounds {
+    fn fmt<W: fmt::Write>(&self, f: &mut fmt::Formatter<W>) -> fmt::Result {
+        let c = self.0;
+        write!(f, "base {}, top {}, address {}", c.base, c.top, c.address)
+    }
+}
+
+/// A word, shown as its number.
+#[derive(Drop)]
+struct Word(u64);
+
+impl fmt::Display for Word {
+    fn fmt<W: fmt::Write>(&self, f: &mut fmt::Formatter<W>) -> fmt::Result {
+        write!(f, "word {}", self.0)
+    }
+}
+
+/// The exponent of a compact word, and the nine bits of its base and of its top.
+#[derive(Drop)]
+struct Parts {
+    exponent: u64,
+    base: u64,
+    top: u64,
+}
+
+impl From<u64> for Parts {
+    ghost from_gives = { λ word parts. parts ≡ record { exponent = field word 50 4; base = field word 32 9; top = field word 41 9 } };
+
+    fn from(word: u64) -> Parts {
+        Parts {
+            exponent: format::EXPONENT.of(word),
+            base: format::BASE.of(word),
+            top: format::TOP.of(word),
         }
     }
 }
 
-/// Prints the exact word, or the refusal.
-fn show_exact(rt: &impl Print, base: u32, top: u32, address: u32) -> io::Result<()> {
-    match Exact::write(all_rights(base, top, address)) {
-        Ok(word) => println!(rt; "exact: base {base}, top {top}, address {address}: word {word}"),
-        Err(refusal) => {
-            let number = refusal.number();
-            println!(rt; "exact: base {base}, top {top}, address {address}: refused, {number}")
-        }
+impl fmt::Display for Parts {
+    fn fmt<W: fmt::Write>(&self, f: &mut fmt::Formatter<W>) -> fmt::Result {
+        write!(f, "E {}, B {}, T {}", self.exponent, self.base, self.top)
     }
 }
 
-/// Prints what a compact word reads as, or the refusal.
+/// The unit of a size, and the size rounded up to a multiple of it.
+#[derive(Drop)]
+struct Rounded {
+    unit: u32,
+    size: u64,
+}
+
+impl fmt::Display for Rounded {
+    fn fmt<W: fmt::Write>(&self, f: &mut fmt::Formatter<W>) -> fmt::Result {
+        write!(f, "unit {}, rounded {}", self.unit, self.size)
+    }
+}
+
+/// Prints what a format was asked, and what it found, or the refusal.
+fn show(
+    rt: &impl Print,
+    format: &str,
+    asked: impl fmt::Display + Drop,
+    answer: Result<impl fmt::Display + Drop, Refusal>,
+) -> io::Result<()> {
+    match answer {
+        Ok(found) => println!(rt; "{format}: {asked}: {found}"),
+        Err(refusal) => println!(rt; "{format}: {asked}: refused, {refusal}"),
+    }
+}
+
+/// Shows the fields of the compact word of a capability.
+fn show_compact(rt: &impl Print, c: Capability) -> io::Result<()> {
+    let parts = Compact::write(c).map(Parts::from);
+    show(rt, "compact", Bounds(c), parts)
+}
+
+/// Shows the exact word of a capability.
+fn show_exact(rt: &impl Print, c: Capability) -> io::Result<()> {
+    show(rt, "exact", Bounds(c), Exact::write(c).map(Word))
+}
+
+/// Shows what a compact word reads as.
 fn show_read(rt: &impl Print, word: u64) -> io::Result<()> {
-    match Compact::read(word) {
-        Ok(c) => {
-            let base = c.base;
-            let top = c.top;
-            let address = c.address;
-            println!(rt; "compact: word {word}: base {base}, top {top}, address {address}")
-        }
-        Err(refusal) => {
-            let number = refusal.number();
-            println!(rt; "compact: word {word}: refused, {number}")
-        }
-    }
+    show(rt, "compact", Word(word), Compact::read(word).map(Bounds))
 }
 
-/// A size rounded up to a multiple of the unit.
-fn round_up(size: u32, unit: u32) -> u64
-    requires { 0 < unit }
-    ensures { result ≡ rounded size unit }
-{
-    let unit = unit as u64;
-    (size as u64 + (unit - 1)) / unit * unit
-}
-
-/// Prints the unit of a size in compact and the rounded size, or the refusal.
+/// Shows the unit of a size in compact and the rounded size.
 fn show_unit(rt: &impl Print, size: u32) -> io::Result<()> {
-    match Compact::unit(size) {
-        Ok(unit) => {
-            let whole = round_up(size, unit);
-            println!(rt; "compact: size {size}: unit {unit}, rounded {whole}")
-        }
-        Err(refusal) => {
-            let number = refusal.number();
-            println!(rt; "compact: size {size}: refused, {number}")
-        }
-    }
+    let rounded = Compact::unit(size).map(|unit| Rounded {
+        unit,
+        size: (size as u64).next_multiple_of(unit as u64),
+    });
+    show(rt, "compact", format_args!("size {size}"), rounded)
+}
+
+/// Shows how many of so many words with each field at its ends come back.
+fn show_count<F: Format>(
+    rt: &impl Print,
+    format: &str,
+    fields: &[Field],
+    places: u32,
+) -> io::Result<()> {
+    let back = count_back::<F>(fields, places);
+    println!(rt;
+        "{format}: of {places} words with each field at its ends, {back} are read and written back equal"
+    )
 }
 
 fn main(rt: HostRuntime) -> io::Result<()> {
-    show_compact(&rt, 64, 72, 64)?;
-    show_compact(&rt, 0, 4088, 0)?;
-    show_compact(&rt, 0, 4096, 0)?;
-    show_compact(&rt, 8, 4104, 8)?;
-    show_compact(&rt, 1, 512, 1)?;
-    show_compact(&rt, 1, 513, 1)?;
-    show_exact(&rt, 1, 513, 1)?;
-    show_compact(&rt, 1, 512, 512)?;
-    show_compact(&rt, 1, 512, 0)?;
-    show_compact(&rt, 1, 512, 513)?;
+    show_compact(&rt, all_rights(64, 72, 64))?;
+    show_compact(&rt, all_rights(0, 4088, 0))?;
+    show_compact(&rt, all_rights(0, 4096, 0))?;
+    show_compact(&rt, all_rights(8, 4104, 8))?;
+    show_compact(&rt, all_rights(1, 512, 1))?;
+    show_compact(&rt, all_rights(1, 513, 1))?;
+    show_exact(&rt, all_rights(1, 513, 1))?;
+    show_compact(&rt, all_rights(1, 512, 512))?;
+    show_compact(&rt, all_rights(1, 512, 0))?;
+    show_compact(&rt, all_rights(1, 512, 513))?;
     show_read(&rt, (8 << 32) + (16 << 41) + 8)?;
     show_read(&rt, (1 << 32) + (2 << 41) + (3 << 50) + 8)?;
     show_unit(&rt, 0)?;
@@ -167,12 +173,6 @@ fn main(rt: HostRuntime) -> io::Result<()> {
     show_unit(&rt, 4089)?;
     show_unit(&rt, 65536)?;
     show_unit(&rt, 65537)?;
-    let compact = count_back::<Compact>(&COMPACT, 4096);
-    println!(rt;
-        "compact: of 4096 words with each field at its ends, {compact} are read and written back equal"
-    )?;
-    let exact = count_back::<Exact>(&EXACT, 1024);
-    println!(rt;
-        "exact: of 1024 words with each field at its ends, {exact} are read and written back equal"
-    )
+    show_count::<Compact>(&rt, "compact", &COMPACT, 4096)?;
+    show_count::<Exact>(&rt, "exact", &EXACT, 1024)
 }

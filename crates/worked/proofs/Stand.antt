@@ -1,7 +1,8 @@
 -- The worked examples hold.
 use Rattle.std.proofs.Common.{◌≡◌, ℕ, None, sym, refl, ap, ◌∙◌, arith, rules}
+use Rattle.capability.specs.Fields.{field}
 use Rattle.compact.specs.Exponents.{greatest, first, exponent_of, unit_exponent_of}
-use Rattle.compact.specs.Compact.{compact, nine_bits, field, word, located, unpacked}
+use Rattle.compact.specs.Compact.{compact, nine_bits, word, located, unpacked}
 use Rattle.compact.specs.Laws.{word_fields, read_refused}
 use Rattle.worked.specs.Worked.{cap_of, Carries, HasFields, Examples, field_e, field_b, field_t, field_address}
 

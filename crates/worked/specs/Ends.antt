@@ -1,6 +1,7 @@
 -- Words with each field at its ends.
-use Rattle.std.specs.Prelude.{ℕ, zero, suc, ◌+◌, ◌-◌, ◌*◌, ◌/◌, ◌%◌, ◌^◌, Bool, cond, List, [], ◌∷◌, ◌==◌, bit_or}
-use Rattle.worked.specs.declared.ends.Field.{Field}
+use Rattle.std.specs.Prelude.{ℕ, ◌+◌, ◌-◌, ◌/◌, ◌%◌, cond, List, [], ◌∷◌, ◌==◌, bit_or}
+use Rattle.capability.specs.Fields.{placed}
+use Rattle.capability.specs.declared.field.Field.{Field}
 
 -- the numbers of a field that are tried: 0, the middle, the largest but one and the largest
 abbrev pub tried : ℕ → ℕ → ℕ
@@ -9,14 +10,9 @@ tried largest which =
 
 -- such a number in its place in the word
 abbrev pub end_of : Field → ℕ → ℕ
-end_of f which = (tried f.largest which * 2 ^ (f.low % 64)) % 2 ^ 64
+end_of f which = placed f (tried f.largest which)
 
 -- the word of a place: its digits by 4, the lowest first, say the number of each field
 abbrev pub word_of : List Field → ℕ → ℕ
 word_of [] place = 0
 word_of (f ∷ fs) place = bit_or (end_of f (place % 4)) (word_of fs (place / 4))
-
--- how many of the numbers below n pass a test
-unfoldable pub count_below : ℕ → (ℕ → Bool) → ℕ
-count_below zero test = 0
-count_below (suc n) test = count_below n test + cond (test n) 1 0

@@ -1,8 +1,9 @@
 -- Worked examples of the two formats.
 use Rattle.std.specs.Prelude.{◌≡◌, ℕ, ◌≤◌, true, is_some, Some, None}
+use Rattle.capability.specs.Fields.{field}
 use Rattle.capability.specs.Formats.{Meaning, rounded}
 use Rattle.capability.specs.declared.types.Capability.{Capability}
-use Rattle.compact.specs.Compact.{compact, field}
+use Rattle.compact.specs.Compact.{compact}
 use Rattle.exact.specs.Exact.{exact}
 
 -- a capability with these bounds, this address and these rights

@@ -1,4 +1,4 @@
-use Rattle.std.proofs.Common.{Ok, sym, ap, ◌∙◌, arith}
+use Rattle.std.proofs.Common.{◌+◌, Ok, sym, ap, ◌∙◌, arith}
 use Rattle.std.specs.Option.{ok_or}
 use Rattle.capability.specs.declared.refusal.Refusal.TheVariants.{NotCarried}
 use Rattle.compact.specs.Compact.{nine_bits}
@@ -19,4 +19,5 @@ returns c =
     let sum = shifted c.args.c.address (nine_bits e c.args.c.base) (nine_bits e c.args.c.top) e c.args.c.rights
     f.word (omega arith) (omega arith) c.exponent-e.ensures.largest.at_most f.rights in
     let word = word_given _ c.args.c c.exponent-e.ensures.value yes in
-    ap Ok sum ∙ sym (ap (λ o. ok_or o NotCarried) word)
+    (λ i. Ok (c.put.ensures i + c.put-2.ensures i + c.put-3.ensures i + c.put-4.ensures i + c.put-5.ensures i))
+    ∙ ap Ok sum ∙ sym (ap (λ o. ok_or o NotCarried) word)
