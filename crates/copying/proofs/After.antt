@@ -1,18 +1,18 @@
 -- What a granule is after the copy. Assumes nothing.
-use Rattle.std.proofs.Common.{◌≡◌, ℕ, ◌+◌, ◌-◌, ◌*◌, ◌/◌, ◌%◌, ◌^◌, ◌<◌, ◌≤◌, min, Bool, true, false, cond, ◌&&◌, eqb, leb, List, sym, refl, ap, ◌∙◌, ⊎_elim, arith}
-use Rattle.std.proofs.lemmas.Bool.{cases_eq, le-leb, and_left, and_parts, cond-true, cond-false, eqb-true, leb-true, eq-eqb, ne_eqb}
+use Rattle.std.proofs.Common.{◌≡◌, ℕ, ◌+◌, ◌-◌, ◌*◌, ◌/◌, ◌%◌, ◌^◌, ◌<◌, ◌≤◌, min, Bool, true, false, cond, ◌&&◌, eqb, leb, List, sym, refl, ap, ◌∙◌, arith}
+use Rattle.std.proofs.lemmas.Bool.{le-leb, and_parts, cond-true, cond-false, eqb-true, leb-true, eq-eqb}
 use Rattle.store.specs.Cells.{Cell, cell}
 use Rattle.stored_bytes.specs.Bytes.{number, byte, byte_of, among}
 use Rattle.stored_bytes.proofs.Weights.{number_same}
 use Rattle.stored_bytes.proofs.Made.{byte_number}
-use Rattle.stored_bytes.proofs.Places.{byte_below}
-use Rattle.stored_bytes.proofs.Renewed.{fails}
+use Rattle.stored_bytes.proofs.Places.{byte_below, word_is}
 use Rattle.stored_bytes.proofs.Stored.{among_in, among_before, among_beyond, part_is}
 use Rattle.copying.specs.Copy.{byte_after, carried, source, arriving}
 
-same_cond : (t : Bool) (p q r s : Cell) → (t ≡ true → p ≡ q) → r ≡ s → cond t p r ≡ cond t q s
-same_cond true p q r s e d = e refl
-same_cond false p q r s e d = d
+-- a tagged granule v arrives as it is where it goes, and else its word
+chosen : (v : Cell) (goes : Bool) (w : ℕ) → (goes ≡ true → v.1 ≡ true) → v.0 ≡ w → (v.0, goes) ≡ cond goes v (w, false)
+chosen v true w t e = ap (λ (b : Bool). (v.0, b)) (sym (t refl))
+chosen v false w t e = ap (λ (k : ℕ). (k, false)) e
 
 -- the bytes
 module _ (f : ℕ) (xs : List Cell) (a b n : ℕ) where
@@ -68,24 +68,19 @@ module _ (passes : ℕ → Bool) (f : ℕ) (xs : List Cell) (a b n : ℕ) where
       ap (λ (v : ℕ). (v, false)) e
       ∙ sym (cond-false (carried passes f xs a b n (source a b i)) (cell xs (source a b i)) (number (byte_after f xs a b n) (8 * (f + i)) 8, false) t)
 
-  -- granule i lies whole in the range, and its bytes are those from byte r of granule j on
-  module _ (i j r : ℕ) (l : a ≤ 8 * (f + i)) (h : 8 * (f + i) + 8 ≤ a + n) (r8 : r < 8) (at : 8 * (f + j) + r ≡ 8 * (f + i) - a + b) where
-    abbrev goes : Bool
-    goes = eqb r 0 && ((cell xs j).1 && passes (cell xs j).0)
+  -- granule i lies whole in the range, and granule j of the source stands there
+  module _ (i j : ℕ) (l : a ≤ 8 * (f + i)) (h : 8 * (f + i) + 8 ≤ a + n) (at : 8 * (f + j) ≡ 8 * (f + i) - a + b) where
+    pub carried_is : carried passes f xs a b n (source a b i) ≡ ((cell xs j).1 && passes (cell xs j).0)
+    carried_is =
+        let s : source a b i ≡ j = omega arith in
+        whole_carried (source a b i) (omega arith) (omega arith) (omega arith) ∙ ap (λ (k : ℕ). (cell xs k).1 && passes (cell xs k).0) s
 
-    pub whole_goes : goes ≡ carried passes f xs a b n (source a b i)
-    whole_goes = ⊎_elim
-        (λ (z : r ≡ 0).
+    pub whole_arrives : (v : Cell) (goes : Bool) → v ≡ cell xs j → v.0 < 2 ^ 64 → goes ≡ (v.1 && passes v.0) → (v.0, goes) ≡ arriving passes f xs a b n i
+    whole_arrives v goes is fits e =
         let s : j ≡ source a b i = omega arith in
-        ap (λ (t : Bool). t && ((cell xs j).1 && passes (cell xs j).0)) (eq-eqb r 0 z)
-        ∙ ap (λ (k : ℕ). (cell xs k).1 && passes (cell xs k).0) s
-        ∙ sym (whole_carried (source a b i) (omega arith) (omega arith) (omega arith)))
-        (λ (z : r ≡ 0 → ⊥). and_left _ _ (ne_eqb r 0 z) ∙ sym (fails _ (λ t. let q = parts (source a b i) t in z (omega arith))))
-        (cases_eq r 0)
-
-    pub whole_arrives : cond goes (cell xs j) (number (byte f xs) (8 * (f + j) + r) 8, false) ≡ arriving passes f xs a b n i
-    whole_arrives =
-        ap (λ (t : Bool). cond t (cell xs j) (number (byte f xs) (8 * (f + j) + r) 8, false)) whole_goes
-        ∙ same_cond (carried passes f xs a b n (source a b i)) _ _ _ _
-        (λ t. let q = parts (source a b i) t in let s : j ≡ source a b i = omega arith in ap (cell xs) s)
-        (ap (λ (v : ℕ). (v, false)) (whole_is f xs a b n i _ (8 * (f + j) + r) l h at refl))
+        let word = word_is f xs (8 * (f + j)) j v.0 refl (ap (λ (d : Cell). d.0) is) fits in
+        let moved = whole_is f xs a b n i v.0 (8 * (f + j)) l h at word in
+        let all = e ∙ ap (λ (d : Cell). d.1 && passes d.0) is ∙ sym carried_is in
+        chosen v goes _ (λ t. (and_parts v.1 _ (sym e ∙ t)).0) moved
+        ∙ ap (λ (d : Cell). cond goes d (number (byte_after f xs a b n) (8 * (f + i)) 8, false)) (is ∙ ap (cell xs) s)
+        ∙ ap (λ (t : Bool). cond t (cell xs (source a b i)) (number (byte_after f xs a b n) (8 * (f + i)) 8, false)) all

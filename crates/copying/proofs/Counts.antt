@@ -1,22 +1,14 @@
 -- How many granules are carried. Assumes nothing.
-use Rattle.std.proofs.Common.{◌≡◌, ℕ, zero, suc, ◌+◌, ◌-◌, ◌*◌, ◌/◌, ◌^◌, ◌<◌, ◌≤◌, Bool, true, false, cond, List, length, sym, refl, ap, ◌∙◌, arith}
-use Rattle.std.proofs.lemmas.Bool.{cond-false}
+use Rattle.std.proofs.Common.{zero-add, ◌≡◌, ℕ, zero, suc, ◌+◌, ◌-◌, ◌*◌, ◌/◌, ◌<◌, ◌≤◌, Bool, true, false, cond, List, length, sym, refl, ap, ◌∙◌, arith}
+use mir.Val.{bool_byte}
+use Rattle.std.proofs.lemmas.Bool.{false_from_ne_true, cond-false}
 use Rattle.store.specs.Cells.{Cell}
-use Rattle.stored_bytes.proofs.Renewed.{fails}
 use Rattle.copying.specs.Copy.{carried, source, count, carried_count}
 use Rattle.copying.proofs.After.{parts}
 
 -- 1 for a test that holds
 abbrev pub bit : Bool → ℕ
 bit t = cond t 1 0
-
-bit_le : (t : Bool) → bit t ≤ 1
-bit_le true = omega arith
-bit_le false = omega arith
-
-count_le : (q : ℕ → Bool) (n : ℕ) → count q n ≤ n
-count_le q zero = omega arith
-count_le q (suc n) = let h = count_le q n in let b = bit_le (q n) in omega arith
 
 count_none : (q : ℕ → Bool) (n : ℕ) → ((k : ℕ) → k < n → q k ≡ false) → count q n ≡ 0
 count_none q zero h = refl
@@ -53,41 +45,52 @@ count_tests q r (suc n) h =
     let b : bit (q n) ≡ bit (r n) = ap bit (h n (omega arith)) in
     omega arith
 
--- c of them are counted after k of n turns, from the first one up or from the last one down
-abbrev pub Counted : (ℕ → Bool) → ℕ → Bool → ℕ → ℕ → Type 0
-Counted q n true k c = c ≡ count q k
-Counted q n false k c = c + count q (n - k) ≡ count q n
+bit_is : (t : Bool) → bool_byte t ≡ bit t
+bit_is true = refl
+bit_is false = refl
 
-module _ (q : ℕ → Bool) (n : ℕ) where
-  pub counted_none : (up : Bool) → Counted q n up 0 0
-  counted_none true = refl
-  counted_none false = let z : n - 0 ≡ n = omega arith in let e = ap (count q) z in omega arith
+pub one_at_most : (t : Bool) → bool_byte t ≤ 1
+one_at_most true = omega arith
+one_at_most false = omega arith
 
-  pub counted_more : (up : Bool) (k c d r : ℕ) → k < n → d ≡ cond up k (n - 1 - k) → r ≡ bit (q d) → Counted q n up k c → Counted q n up (k + 1) (c + r)
-  counted_more true k c d r h e is i =
-      let s : count q (k + 1) ≡ bit (q d) + count q k = ap (count q) (let m : k + 1 ≡ suc k = omega arith in m) ∙ ap (λ (j : ℕ). bit (q j) + count q k) (sym e) in
+-- c of them are counted before turn k of those from low to high - 1, from the lowest up or from the highest down
+abbrev pub Counted : (ℕ → Bool) → Bool → ℕ → ℕ → ℕ → ℕ → Type 0
+Counted q true low high k c = c ≡ count q (k - low)
+Counted q false low high k c = c + count q (high - k) ≡ count q (high - low)
+
+module _ (q : ℕ → Bool) (low high : ℕ) where
+  pub counted_none : (up : Bool) → Counted q up low high low 0
+  counted_none true = ap (count q) (let z : 0 ≡ low - low = omega arith in z)
+  counted_none false = zero-add _
+
+  -- turn k counts granule i
+  pub counted_more : (up : Bool) (k i c r : ℕ) (t : Bool) → low ≤ k → k < high → i ≡ cond up k (low + (high - 1 - k)) → t ≡ q (i - low) → r ≡ bool_byte t
+      → Counted q up low high k c → Counted q up low high (k + 1) (c + r)
+  counted_more true k i c r t l h e is one n =
+      let s : count q (k + 1 - low) ≡ bit (q (i - low)) + count q (k - low) =
+      ap (count q) (let m : k + 1 - low ≡ suc (k - low) = omega arith in m) ∙ ap (λ (j : ℕ). bit (q j) + count q (k - low)) (let m : k - low ≡ i - low = omega arith in m) in
+      let b : r ≡ bit (q (i - low)) = one ∙ bit_is t ∙ ap bit is in
       omega arith
-  counted_more false k c d r h e is i =
-      let s : count q (n - k) ≡ bit (q d) + count q (n - (k + 1)) =
-      ap (count q) (let m : n - k ≡ suc (n - (k + 1)) = omega arith in m)
-      ∙ ap (λ (j : ℕ). bit (q j) + count q (n - (k + 1))) (let m : n - (k + 1) ≡ d = omega arith in m) in
+  counted_more false k i c r t l h e is one n =
+      let s : count q (high - k) ≡ bit (q (i - low)) + count q (high - (k + 1)) =
+      ap (count q) (let m : high - k ≡ suc (high - (k + 1)) = omega arith in m) ∙ ap (λ (j : ℕ). bit (q j) + count q (high - (k + 1))) (let m : high - (k + 1) ≡ i - low = omega arith in m) in
+      let b : r ≡ bit (q (i - low)) = one ∙ bit_is t ∙ ap bit is in
       omega arith
 
-  pub counted_all : (up : Bool) (k c : ℕ) → k ≡ n → Counted q n up k c → c ≡ count q n
-  counted_all true k c e i = i ∙ ap (count q) e
-  counted_all false k c e i = let z : count q (n - k) ≡ 0 = ap (count q) (let m : n - k ≡ 0 = omega arith in m) in omega arith
-
-  pub counted_fits : (up : Bool) (k c : ℕ) (t : Bool) (r : ℕ) → k ≤ n → n ≤ 8192 → r ≡ bit t → Counted q n up k c → c + r < 2 ^ 32
-  counted_fits true k c t r h l e i = let most = count_le q k in let one = bit_le t in omega arith
-  counted_fits false k c t r h l e i = let most = count_le q n in let one = bit_le t in omega arith
+  pub counted_all : (up : Bool) (k c : ℕ) → k ≡ high → Counted q up low high k c → c ≡ count q (high - low)
+  counted_all true k c e n = n ∙ ap (λ (j : ℕ). count q (j - low)) e
+  counted_all false k c e n = let z : count q (high - k) ≡ 0 = ap (count q) (let m : high - k ≡ 0 = omega arith in m) in omega arith
 
 module _ (passes : ℕ → Bool) (f : ℕ) (xs : List Cell) (a b n : ℕ) where
   pub none_carried : n ≡ 0 → carried_count passes f xs a b n ≡ 0
-  none_carried z = count_none _ (length xs) (λ k h. fails _ (λ t. let p = parts passes f xs a b n k t in omega arith))
+  none_carried z = count_none _ (length xs) (λ k h. false_from_ne_true _ (λ t. let p = parts passes f xs a b n k t in omega arith))
 
   -- what goes to the granule d behind granule low is carried
   abbrev pub carried_nth : ℕ → ℕ → Bool
   carried_nth low d = carried passes f xs a b n (source a b (low + d))
+
+  pub nth_here : (low i : ℕ) → low ≤ i → carried passes f xs a b n (source a b i) ≡ carried_nth low (i - low)
+  nth_here low i l = ap (λ (k : ℕ). carried passes f xs a b n (source a b k)) (let e : i ≡ low + (i - low) = omega arith in e)
 
   -- the copy goes through all that are carried
   pub all_carried : (low m : ℕ) → 8 * f ≤ a → 8 * f ≤ b → b + n ≤ 8 * (f + length xs) → f + low ≡ a / 8 → m ≡ (a + n + 7) / 8 - a / 8
@@ -97,8 +100,8 @@ module _ (passes : ℕ → Bool) (f : ℕ) (xs : List Cell) (a b n : ℕ) where
       let j = source a b low in
       let t = count_tests (carried_nth low) (λ d. q (j + d)) m (λ k h. let e : source a b (low + k) ≡ j + k = omega arith in ap q e) in
       let s = count_shift q j m in
-      let z = count_none q j (λ k h. fails _ (λ t. let p = parts passes f xs a b n k t in omega arith)) in
+      let z = count_none q j (λ k h. false_from_ne_true _ (λ t. let p = parts passes f xs a b n k t in omega arith)) in
       let w = count_same q (j + m) (length xs)
-      (λ k h. fails _ (λ t. let p = parts passes f xs a b n k t in omega arith))
-      (λ k h. fails _ (λ t. let p = parts passes f xs a b n k t in omega arith)) in
+      (λ k h. false_from_ne_true _ (λ t. let p = parts passes f xs a b n k t in omega arith))
+      (λ k h. false_from_ne_true _ (λ t. let p = parts passes f xs a b n k t in omega arith)) in
       omega arith

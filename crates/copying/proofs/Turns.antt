@@ -1,14 +1,12 @@
 -- Granules copied one after the other. Assumes nothing.
-use Rattle.std.proofs.Common.{◌≡◌, ℕ, ◌+◌, ◌-◌, ◌*◌, ◌/◌, ◌%◌, ◌<◌, ◌≤◌, min, max, Bool, true, false, cond, ◌&&◌, eqb, leb, ◌⊎◌, List, length, set, sym, refl, ap, ◌∙◌, inl, inr, ⊎_elim, arith}
-use Rattle.std.proofs.lemmas.Bool.{cases_lt, le-ltb, cond-false}
+use Rattle.std.proofs.Common.{◌≡◌, ℕ, ◌+◌, ◌-◌, ◌*◌, ◌/◌, ◌%◌, ◌<◌, ◌≤◌, Bool, true, false, cond, ◌&&◌, eqb, leb, ◌⊎◌, List, set, sym, refl, ap, ◌∙◌, inl, inr, ⊎_elim, arith}
+use Rattle.std.proofs.lemmas.Bool.{cases_lt}
 use Rattle.store.specs.Cells.{Cell, cell}
-use Rattle.store.proofs.Listed.{same_listed}
-use Rattle.stored_bytes.specs.Bytes.{number, byte, byte_of, touched, renewed}
+use Rattle.stored_bytes.specs.Bytes.{number, byte, byte_of, renewed}
 use Rattle.stored_bytes.proofs.Weights.{number_same}
-use Rattle.stored_bytes.proofs.Renewed.{renewed_bounds, renewed_apart, renewed_none, renewed_one, renewed_up, renewed_down}
-use Rattle.copying.specs.Copy.{byte_after, carried, source, arriving, copied}
+use Rattle.stored_bytes.proofs.Renewed.{renewed_none, renewed_bounds, renewed_apart, renewed_one, renewed_up, renewed_down}
+use Rattle.copying.specs.Copy.{byte_after, carried, source, arriving}
 use Rattle.copying.proofs.After.{in_range, before, beyond}
-use Rattle.copying.proofs.Counts.{bit, carried_nth}
 
 -- what arrives at a granule is of its own cell and of those that it is read from
 module _ (passes : ℕ → Bool) (f : ℕ) (xs ys : List Cell) (a b n : ℕ) where
@@ -43,10 +41,10 @@ module _ (passes : ℕ → Bool) (f : ℕ) (xs ys : List Cell) (a b n : ℕ) whe
         ∙ ap (λ (v : ℕ). cond (carried passes f xs a b n (source a b i)) (cell xs (source a b i)) (v, false)) w
 
 -- a turn: granule i of the cells ys, of which those from low to high - 1 were copied, becomes what arrives by ys
-module _ (passes : ℕ → Bool) (f g : ℕ) (xs ys zs : List Cell) (to from n low high i c : ℕ) (same : g ≡ f)
+module _ (passes : ℕ → Bool) (f g : ℕ) (xs ys zs : List Cell) (to from n low high i : ℕ) (c : Bool) (same : g ≡ f)
     (made : ys ≡ renewed (arriving passes f xs (8 * f + to) (8 * f + from) n) xs low high)
     (after : zs ≡ set ys i (arriving passes g ys (8 * g + to) (8 * g + from) n i))
-    (came : c ≡ bit (carried passes g ys (8 * g + to) (8 * g + from) n (source (8 * g + to) (8 * g + from) i))) where
+    (came : c ≡ carried passes g ys (8 * g + to) (8 * g + from) n (source (8 * g + to) (8 * g + from) i)) where
   abbrev a : ℕ
   a = 8 * f + to
 
@@ -65,11 +63,11 @@ module _ (passes : ℕ → Bool) (f g : ℕ) (xs ys zs : List Cell) (to from n l
         ∙ ap (λ (h : ℕ). set ys i (arriving passes h ys (8 * h + to) (8 * h + from) n i)) same
         ∙ renewed_one (arriving passes f xs a b n) ys i _ (arriving_same passes f xs ys a b n i (kept i o) (kept _ there) (λ y p q s. kept _ (src y p q s)))
 
-    number_is : c ≡ bit (carried passes f xs a b n (source a b i))
-    number_is =
+    carries : c ≡ carried passes f xs a b n (source a b i)
+    carries =
         came
-        ∙ ap (λ (h : ℕ). bit (carried passes h ys (8 * h + to) (8 * h + from) n (source (8 * h + to) (8 * h + from) i))) same
-        ∙ ap bit (carried_same passes f xs ys a b n i (kept i o) (kept _ there) (λ y p q s. kept _ (src y p q s)))
+        ∙ ap (λ (h : ℕ). carried passes h ys (8 * h + to) (8 * h + from) n (source (8 * h + to) (8 * h + from) i)) same
+        ∙ carried_same passes f xs ys a b n i (kept i o) (kept _ there) (λ y p q s. kept _ (src y p q s))
 
   -- upward, to no higher address
   module _ (down : to ≤ from) (here : high ≡ i) (lo : low ≤ i) where
@@ -80,8 +78,8 @@ module _ (passes : ℕ → Bool) (f g : ℕ) (xs ys zs : List Cell) (to from n l
         (cells (inr (omega arith)) (inr (omega arith)) (λ y p q s. inr (omega arith)) ∙ renewed_bounds new ys i (i + 1) high (i + 1) (sym here) refl)
         (λ k l h. refl)
 
-    up_number : c ≡ bit (carried passes f xs a b n (source a b i))
-    up_number = number_is (inr (omega arith)) (inr (omega arith)) (λ y p q s. inr (omega arith))
+    up_carries : c ≡ carried passes f xs a b n (source a b i)
+    up_carries = carries (inr (omega arith)) (inr (omega arith)) (λ y p q s. inr (omega arith))
 
   -- downward, to a higher address
   module _ (up : from < to) (here : low ≡ i + 1) (hi : low ≤ high) where
@@ -92,49 +90,44 @@ module _ (passes : ℕ → Bool) (f g : ℕ) (xs ys zs : List Cell) (to from n l
         (cells (inl (omega arith)) (inl (omega arith)) (λ y p q s. inl (omega arith)) ∙ renewed_bounds new ys i (i + 1) i low refl (sym here))
         (λ k l h. refl)
 
-    down_number : c ≡ bit (carried passes f xs a b n (source a b i))
-    down_number = number_is (inl (omega arith)) (inl (omega arith)) (λ y p q s. inl (omega arith))
+    down_carries : c ≡ carried passes f xs a b n (source a b i)
+    down_carries = carries (inl (omega arith)) (inl (omega arith)) (λ y p q s. inl (omega arith))
 
--- the copied granules after k of m turns, in the order of the copy: from low up, or from the granule before low + m down
+-- the granules that were copied before turn k of those from low to high - 1: from the lowest up, or from the highest down
 abbrev pub first_copied : Bool → ℕ → ℕ → ℕ → ℕ
-first_copied up low m k = cond up low (low + (m - k))
+first_copied up low high k = cond up low (low + (high - k))
 
 abbrev pub last_copied : Bool → ℕ → ℕ → ℕ → ℕ
-last_copied up low m k = cond up (low + k) (low + m)
+last_copied up low high k = cond up k high
 
--- turn k, at granule low + d
-module _ (passes : ℕ → Bool) (f g : ℕ) (xs ys zs : List Cell) (to from n low m k d c : ℕ) (same : g ≡ f) (k-less : k < m)
-    (after : zs ≡ set ys (low + d) (arriving passes g ys (8 * g + to) (8 * g + from) n (low + d)))
-    (came : c ≡ bit (carried passes g ys (8 * g + to) (8 * g + from) n (source (8 * g + to) (8 * g + from) (low + d)))) where
+-- turn k, at granule i
+module _ (passes : ℕ → Bool) (f g : ℕ) (xs ys zs : List Cell) (to from n low high k i : ℕ) (c : Bool) (same : g ≡ f) (past : low ≤ k) (more : k < high)
+    (after : zs ≡ set ys i (arriving passes g ys (8 * g + to) (8 * g + from) n i))
+    (came : c ≡ carried passes g ys (8 * g + to) (8 * g + from) n (source (8 * g + to) (8 * g + from) i)) where
   abbrev new : ℕ → Cell
   new = arriving passes f xs (8 * f + to) (8 * f + from) n
 
-  pub turn_cells : (up : Bool) → (up ≡ true → to ≤ from) → (up ≡ false → from < to) → d ≡ cond up k (m - 1 - k)
-      → ys ≡ renewed new xs (first_copied up low m k) (last_copied up low m k)
-      → zs ≡ renewed new xs (first_copied up low m (k + 1)) (last_copied up low m (k + 1))
+  pub turn_cells : (up : Bool) → (up ≡ true → to ≤ from) → (up ≡ false → from < to) → i ≡ cond up k (low + (high - 1 - k))
+      → ys ≡ renewed new xs (first_copied up low high k) (last_copied up low high k)
+      → zs ≡ renewed new xs (first_copied up low high (k + 1)) (last_copied up low high (k + 1))
   turn_cells true t u e made =
-      up_cells passes f g xs ys zs to from n low (low + k) (low + d) c same made after came (t refl) (omega arith) (omega arith)
-      ∙ renewed_bounds new xs low (low + d + 1) low (low + (k + 1)) refl (omega arith)
+      up_cells passes f g xs ys zs to from n low k i c same made after came (t refl) (sym e) (omega arith)
+      ∙ renewed_bounds new xs low (i + 1) low (k + 1) refl (omega arith)
   turn_cells false t u e made =
-      down_cells passes f g xs ys zs to from n (low + (m - k)) (low + m) (low + d) c same made after came (u refl) (omega arith) (omega arith)
-      ∙ renewed_bounds new xs (low + d) (low + m) (low + (m - (k + 1))) (low + m) (omega arith) refl
+      down_cells passes f g xs ys zs to from n (low + (high - k)) high i c same made after came (u refl) (omega arith) (omega arith)
+      ∙ renewed_bounds new xs i high (low + (high - (k + 1))) high (omega arith) refl
 
-  pub turn_number : (up : Bool) → (up ≡ true → to ≤ from) → (up ≡ false → from < to) → d ≡ cond up k (m - 1 - k)
-      → ys ≡ renewed new xs (first_copied up low m k) (last_copied up low m k)
-      → c ≡ bit (carried_nth passes f xs (8 * f + to) (8 * f + from) n low d)
-  turn_number true t u e made = up_number passes f g xs ys zs to from n low (low + k) (low + d) c same made after came (t refl) (omega arith) (omega arith)
-  turn_number false t u e made = down_number passes f g xs ys zs to from n (low + (m - k)) (low + m) (low + d) c same made after came (u refl) (omega arith) (omega arith)
+  pub turn_carries : (up : Bool) → (up ≡ true → to ≤ from) → (up ≡ false → from < to) → i ≡ cond up k (low + (high - 1 - k))
+      → ys ≡ renewed new xs (first_copied up low high k) (last_copied up low high k)
+      → c ≡ carried passes f xs (8 * f + to) (8 * f + from) n (source (8 * f + to) (8 * f + from) i)
+  turn_carries true t u e made = up_carries passes f g xs ys zs to from n low k i c same made after came (t refl) (sym e) (omega arith)
+  turn_carries false t u e made = down_carries passes f g xs ys zs to from n (low + (high - k)) high i c same made after came (u refl) (omega arith) (omega arith)
 
 -- none is copied before the first turn, and all are after the last
-pub none_yet : (up : Bool) (new : ℕ → Cell) (xs : List Cell) (low m : ℕ) → xs ≡ renewed new xs (first_copied up low m 0) (last_copied up low m 0)
-none_yet true new xs low m = renewed_none new xs low ∙ renewed_bounds new xs low low low (low + 0) refl (omega arith)
-none_yet false new xs low m = renewed_none new xs (low + m) ∙ renewed_bounds new xs (low + m) (low + m) (low + (m - 0)) (low + m) (omega arith) refl
+pub none_yet : (up : Bool) (new : ℕ → Cell) (xs : List Cell) (low high : ℕ) → low ≤ high → xs ≡ renewed new xs (first_copied up low high low) (last_copied up low high low)
+none_yet true new xs low high l = renewed_none new xs low
+none_yet false new xs low high l = renewed_none new xs high ∙ renewed_bounds new xs high high (low + (high - low)) high (omega arith) refl
 
-pub all_done : (up : Bool) (new : ℕ → Cell) (xs : List Cell) (low m k : ℕ) → k ≡ m → renewed new xs (first_copied up low m k) (last_copied up low m k) ≡ renewed new xs low (low + m)
-all_done true new xs low m k e = renewed_bounds new xs low (low + k) low (low + m) refl (omega arith)
-all_done false new xs low m k e = renewed_bounds new xs (low + (m - k)) (low + m) low (low + m) (omega arith) refl
-
--- a copy of no bytes
-pub none_copied : (passes : ℕ → Bool) (f : ℕ) (xs : List Cell) (a b n : ℕ) → n ≡ 0 → xs ≡ copied passes f xs a b n
-none_copied passes f xs a b n z = same_listed (length xs) xs _ refl (λ k h.
-    sym (cond-false (touched a n (f + k)) (arriving passes f xs a b n k) (cell xs k) (le-ltb (max a (8 * (f + k))) (min (a + n) (8 * (f + k) + 8)) (omega arith))))
+pub all_done : (up : Bool) (new : ℕ → Cell) (xs : List Cell) (low high k : ℕ) → k ≡ high → renewed new xs (first_copied up low high k) (last_copied up low high k) ≡ renewed new xs low high
+all_done true new xs low high k e = renewed_bounds new xs low k low high refl e
+all_done false new xs low high k e = renewed_bounds new xs (low + (high - k)) high low high (omega arith) refl

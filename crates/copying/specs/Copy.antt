@@ -1,8 +1,12 @@
 -- What a copy of bytes leaves, over the cells of a store whose first granule has the number f. n bytes go from address b to
 -- address a, as if all were read first.
-use Rattle.std.specs.Prelude.{ℕ, zero, suc, ◌+◌, ◌-◌, ◌*◌, ◌/◌, ◌%◌, Bool, false, cond, ◌&&◌, List, length, ◌==◌, nat_le}
+use Rattle.std.specs.Prelude.{◌≡◌, ℕ, zero, suc, ◌+◌, ◌-◌, ◌*◌, ◌/◌, ◌%◌, ◌^◌, ◌<◌, Bool, false, cond, ◌&&◌, List, length, ◌==◌, nat_le}
 use Rattle.store.specs.Cells.{Cell, cell}
 use Rattle.stored_bytes.specs.Bytes.{number, byte, among, overlaid}
+
+-- a test answers, on each word of 64 bits, what the function of words does
+abbrev pub Computes : (ℕ → Bool → Type 0) → (ℕ → Bool) → Type 0
+Computes post passes = (w : ℕ) (answer : Bool) → w < 2 ^ 64 → post w answer → answer ≡ passes w
 
 -- the byte at x afterwards: in the range, the one that stood as far from b as x is from a
 abbrev pub byte_after : ℕ → List Cell → ℕ → ℕ → ℕ → ℕ → ℕ

@@ -1,17 +1,27 @@
 -- The granules of the two buffers: one that is set, and the others as they were. Assumes nothing.
-use Rattle.std.proofs.Common.{◌≡◌, ℕ, zero, suc, ◌+◌, ◌-◌, ◌*◌, ◌/◌, ◌%◌, ◌^◌, ◌<◌, ◌≤◌, Bool, List, [], ◌∷◌, ◌++◌, map, length, get_or, drop, set, refl, ap, ◌∙◌, arith}
+use Rattle.std.proofs.Common.{◌≡◌, ℕ, zero, suc, ◌+◌, ◌-◌, ◌*◌, ◌/◌, ◌%◌, ◌^◌, ◌<◌, ◌≤◌, Bool, List, [], ◌∷◌, ◌++◌, map, length, get_or, drop, set, Err, refl, ap, ◌∙◌, arith}
 use base.Fml.{GName}
 use mir.Val.{bool_byte}
 use Rattle.std.specs.List.{range_with_len}
 use Rattle.std.proofs.lemmas.List.{length-set}
-use Rattle.store.specs.Cells.{Cell, listed, length_listed}
+use Rattle.capability.specs.declared.refusal.Refusal.{Refusal}
+use Rattle.store.specs.Cells.{Cell, within, listed, length_listed}
 use Rattle.store.proofs.Listed.{set_listed}
+use Rattle.store.proofs.Within.{within_err}
 use Rattle.flat.specs.Flat.{word_at, with_word, tag_bit, tag_at, with_bit, with_tag, fitting, flat_cells, left_over, flat_kept}
 use Rattle.flat.proofs.Words.{length_with_word, word_same, word_other, behind_word}
 use Rattle.flat.proofs.Tags.{tag_same, bit_kept, tag_other}
 
 pub length_flat : (bytes tags : List ℕ) → length (flat_cells bytes tags) ≡ fitting bytes tags
 length_flat bytes tags = length_listed _ _
+
+-- a granule that they lack
+pub lacks : {A : Type 0} (bytes tags : List ℕ) (i : ℕ) (v : A) (e : Refusal) → Err e ≡ within (flat_cells bytes tags) i v → fitting bytes tags ≤ i
+lacks bytes tags i v e h = omega (arith, within_err (flat_cells bytes tags) i v e h, length_flat bytes tags)
+
+-- a granule that they have
+pub has : (bytes tags : List ℕ) (i : ℕ) → i < length (flat_cells bytes tags) → i < fitting bytes tags
+has bytes tags i h = omega (arith, h, length_flat bytes tags)
 
 same_cell : (v w : ℕ) (s t : Bool) → v ≡ w → s ≡ t → ◌≡◌ {A = Cell} (v, s) (w, t)
 same_cell v w s t p q = cc

@@ -15,16 +15,6 @@ total_same (suc n) f g h =
     let q : f n ≡ g n = h n (omega arith) in
     omega arith
 
--- a word is the sum of the bytes of its part of the data
-pub word_of_part : (part bytes : List ℕ) (i : ℕ) → part ≡ take ((8 * i + 8) - 8 * i) (drop (8 * i) bytes)
-    → total 8 (λ k. get_or part k 0 * 256 ^ k) ≡ word_at bytes i
-word_of_part part bytes i e =
-    total_same 8 (λ k. get_or part k 0 * 256 ^ k) (λ k. get_or bytes (8 * i + k) 0 * 256 ^ k)
-    (λ k l. ap (λ b. b * 256 ^ k)
-    (ap (λ xs. get_or xs k 0) e
-    ∙ get_or-take ((8 * i + 8) - 8 * i) (drop (8 * i) bytes) k 0 (omega arith)
-    ∙ get_or-drop (8 * i) bytes k 0))
-
 -- the eight bytes of a word, the lowest first
 abbrev pub bytes_of : ℕ → List ℕ
 bytes_of w = map (λ k. w / 256 ^ k % 256) (range_with_len 0 8)

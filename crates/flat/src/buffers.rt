@@ -5,7 +5,8 @@ ghost use Rattle.flat.specs.Flat.{word_at, with_word, tag_at, with_bit, with_tag
 
 /// The word of granule i.
 pub fn word_at(data: &[u8], i: usize) -> u64
-    requires { (8 * i + 8 ≤ length «data».now) × (i < 8192) }
+    requires in_data { 8 * i + 8 ≤ length «data».now }
+    requires in_store { i < 8192 }
     ensures { result ≡ word_at «data».now i }
 {
     let p = 8 * i;
@@ -16,7 +17,8 @@ pub fn word_at(data: &[u8], i: usize) -> u64
 
 /// Writes the word of granule i, and leaves every other byte.
 pub fn put_word(data: &mut [u8], i: usize, word: u64)
-    requires { (8 * i + 8 ≤ length «data».old) × (i < 8192) }
+    requires in_data { 8 * i + 8 ≤ length «data».old }
+    requires in_store { i < 8192 }
     ensures { «data».new ≡ with_word «data».old i word }
 {
     let p = 8 * i;

@@ -9,17 +9,12 @@ mod buffers;
 
 use buffers::{put_tag, put_word, tag_at, word_at};
 use capability::refusal::Refusal;
-use store::Store;
-
-/// The number of the first granule.
-const FIRST: u32 = 0;
-
-/// The most granules that a store has.
-const MOST: usize = 8192;
+use store::{MOST, Store};
 
 /// Granule i is the eight bytes from 8·i of the data, and bit i modulo 8 of tag byte i / 8.
 #[derive(Drop)]
 pub struct Flat<'a> {
+    // The rules fix a data buffer and a tag buffer, which are lent apart.
     pub data: &'a mut [u8],
     pub tags: &'a mut [u8],
 }
@@ -34,7 +29,7 @@ impl<'a> Store for Flat<'a> {
     ghost short = { λ s. flat_short s.«data».now s.tags.now };
 
     fn first(&self) -> u32 {
-        FIRST
+        0
     }
 
     /// As many granules as fit both buffers.
@@ -45,12 +40,8 @@ impl<'a> Store for Flat<'a> {
     }
 
     fn get(&self, i: u32) -> Result<(u64, bool), Refusal> {
-        if i < self.count() {
-            let k = i as usize;
-            Ok((word_at(self.data, k), tag_at(self.tags, k)))
-        } else {
-            Err(Refusal::NoSuchGranule)
-        }
+        let k = self.place(i)?;
+        Ok((word_at(self.data, k), tag_at(self.tags, k)))
     }
 
     /// Every byte and every bit that is not of granule i stays, in both buffers.
@@ -63,13 +54,9 @@ impl<'a> Store for Flat<'a> {
         ensures bytes { self.new.«data».now ≡ data_after self.old.«data».now self.old.tags.now i word }
         ensures bits { self.new.tags.now ≡ tags_after self.old.«data».now self.old.tags.now i tag }
     {
-        if i < self.count() {
-            let k = i as usize;
-            put_word(self.data, k, word);
-            put_tag(self.tags, k, tag);
-            Ok(())
-        } else {
-            Err(Refusal::NoSuchGranule)
-        }
+        let k = self.place(i)?;
+        put_word(self.data, k, word);
+        put_tag(self.tags, k, tag);
+        Ok(())
     }
 }

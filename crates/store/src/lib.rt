@@ -1,10 +1,13 @@
 //! The interface of a store: granules of eight bytes, each with a tag.
 #![tactic(auto)]
 
-ghost use Rattle.std.specs.Prelude.{◌≡◌, ℕ, ◌≤◌, List, length, set, slice_set};
+ghost use Rattle.std.specs.Prelude.{◌≡◌, ℕ, ◌<◌, ◌≤◌, IfOk, List, length, set, slice_set};
 ghost use Rattle.store.specs.Cells.{Cell, Kept, cell, within};
 
 use capability::refusal::Refusal;
+
+/// The most granules that a store has.
+pub const MOST: usize = 8192;
 
 /// Granule i is the eight bytes at address 8·(first + i), the lowest first in its word.
 pub trait Store {
@@ -28,10 +31,25 @@ pub trait Store {
     fn count(&self) -> u32
         ensures { result ≡ length (cells self.now) };
 
+    /// Granule i as a place in a buffer with a place for each granule.
+    fn place(&self, i: u32) -> Result<usize, Refusal>
+        ensures is { result ≡ within (cells self.now) i i }
+        ensures there { IfOk result (λ k. (k ≡ i) × (k < length (cells self.now))) }
+    {
+        if i < self.count() {
+            Ok(i as usize)
+        } else {
+            Err(Refusal::NoSuchGranule)
+        }
+    }
+
+    // The rules fix that one answer holds the word and the tag. An untagged granule has a word too, so the answer is no `Option`.
     /// The word and the tag of granule i.
     fn get(&self, i: u32) -> Result<(u64, bool), Refusal>
         ensures { result ≡ within (cells self.now) i (cell (cells self.now) i) };
 
+    // `fixed` and `held` stand in the contract of every function that writes a store. They relate the store before to the
+    // store after, so no type carries them, and a name for the two together would say no more.
     /// Sets both, and leaves every other granule. A refused set leaves them all.
     fn set(&mut self, i: u32, word: u64, tag: bool) -> Result<(), Refusal>
         ensures outcome { result ≡ within (cells self.old) i tt }

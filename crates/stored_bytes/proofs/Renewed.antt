@@ -2,18 +2,18 @@
 use Rattle.std.proofs.Common.{◌≡◌, ℕ, ◌+◌, ◌-◌, ◌*◌, ◌/◌, ◌<◌, ◌≤◌, min, max, Bool, true, false, cond, ◌&&◌, ltb, leb, ◌⊎◌, List, length, set, replicate, sym, refl, ap, ◌∙◌, inl, inr, ⊎_elim, arith}
 use lib.ListN.{get_or-replicate, length-replicate}
 use Rattle.std.proofs.lemmas.List.{get_or_past, ext_get_or, set-get_or}
-use Rattle.std.proofs.lemmas.Bool.{cases_Bool, cases_lt, and_parts, and_from, ltb-true, leb-true, lt-ltb, le-leb, le-ltb, cond-true, cond-false, ltb-false}
+use Rattle.std.proofs.lemmas.Bool.{cases_Bool, false_from_ne_true, cases_lt, and_parts, and_from, ltb-true, leb-true, lt-ltb, le-leb, le-ltb, cond-true, cond-false, ltb-false}
 use Rattle.store.specs.Cells.{Cell, cell, listed}
 use Rattle.store.proofs.Listed.{length_listed, get_d_listed, same_listed, set_listed}
 use Rattle.stored_bytes.specs.Bytes.{touched, renewed, overlaid}
 
-pub fails : (b : Bool) → (b ≡ true → ⊥) → b ≡ false
-fails true h = absurd (h refl)
-fails false h = refl
+-- granules of word 0, untagged
+abbrev pub none : ℕ → Cell
+none i = (0, false)
 
 pub same_test : (b c : Bool) → (b ≡ true → c ≡ true) → (c ≡ true → b ≡ true) → b ≡ c
 same_test true c f g = sym (f refl)
-same_test false c f g = sym (fails c (λ e. let z : ◌≡◌ {A = Bool} false true = g e in Rattle.std.proofs.lemmas.Bool.false≢true z))
+same_test false c f g = sym (false_from_ne_true c (λ e. let z : ◌≡◌ {A = Bool} false true = g e in Rattle.std.proofs.lemmas.Bool.false≢true z))
 
 listed_ext : (n : ℕ) (f g : ℕ → Cell) → ((k : ℕ) → k < n → f k ≡ g k) → listed n f ≡ listed n g
 listed_ext n f g h = same_listed n (listed n f) g (length_listed n f) (λ k l. get_d_listed n f k (0, false) l ∙ h k l)
@@ -22,7 +22,7 @@ inside : (low j i : ℕ) → (leb low i && ltb i j) ≡ true → (low ≤ i) × 
 inside low j i h = let p = and_parts (leb low i) (ltb i j) h in (leb-true _ _ p.0, ltb-true _ _ p.1)
 
 outside : (low j i : ℕ) → ((low ≤ i) × (i < j) → ⊥) → (leb low i && ltb i j) ≡ false
-outside low j i n = fails _ (λ h. n (inside low j i h))
+outside low j i n = false_from_ne_true _ (λ h. n (inside low j i h))
 
 pub length_renewed : (new : ℕ → Cell) (cells : List Cell) (low high : ℕ) → length (renewed new cells low high) ≡ length cells
 length_renewed new cells low high = length_listed (length cells) _
@@ -138,7 +138,7 @@ pub overlaid_none : (new : ℕ → Cell) (f : ℕ) (cells : List Cell) (a n : �
 overlaid_none new f cells a n z =
     same_listed (length cells) cells _ refl (λ k l. sym (cond-false _ _ _ (le-ltb (max a (8 * (f + k))) (min (a + n) (8 * (f + k) + 8)) (omega arith))))
 
-pub renewed_clear : (cells : List Cell) → renewed (λ i. (0, false)) cells 0 (length cells) ≡ replicate (length cells) (0, false)
+pub renewed_clear : (cells : List Cell) → renewed none cells 0 (length cells) ≡ replicate (length cells) (0, false)
 renewed_clear cells =
     ext_get_or (0, false) _ _ (length_listed (length cells) (λ i. cond (leb 0 i && ltb i (length cells)) (0, false) (cell cells i)) ∙ sym (length-replicate (length cells) (0, false)))
     (λ k l.

@@ -1,20 +1,16 @@
 //! The bytes of words.
 ghost use Rattle.std.specs.Prelude.{◌≡◌, ◌+◌, ◌-◌, ◌*◌, ◌/◌, ◌%◌, ◌^◌, ◌<◌, ◌≤◌};
 
-// What byte j of a word counts.
-fn weight(j: u32) -> u64
-    requires { j < 8 }
-    ensures { result ≡ 256 ^ j }
-{
-    1 << (8 * j)
-}
-
 // The low n bytes of a word.
 pub(crate) fn low_bytes(word: u64, n: u32) -> u64
     requires { n ≤ 8 }
     ensures { result ≡ word % 256 ^ n }
 {
-    if n == 8 { word } else { word & (weight(n) - 1) }
+    if n == 8 {
+        word
+    } else {
+        word & ((1 << (8 * n)) - 1)
+    }
 }
 
 /// Eight of the sixteen bytes of two words, from byte r on.

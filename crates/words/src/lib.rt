@@ -3,22 +3,26 @@
 
 ghost use Rattle.std.specs.Prelude.{◌≡◌, ℕ, length, slice_set};
 ghost use Rattle.store.specs.Cells.{within};
-ghost use Rattle.words.specs.Records.{record_cells, records_short, records_kept, records_after};
+ghost use Rattle.words.specs.Records.{meaning, record_cells, records_short, records_kept, records_after};
 
 use capability::refusal::Refusal;
-use store::Store;
-
-/// The number of the first granule.
-const FIRST: u32 = 0;
-
-/// The most granules that a store has.
-const MOST: usize = 8192;
+use store::{MOST, Store};
 
 /// A word, and a mark: 0 is untagged, and any other is tagged.
-#[derive(Clone, Copy)]
+#[derive(Clone, Copy, PartialEq, Eq, Debug, Default)]
 pub struct Granule {
     pub word: u64,
+    // The rules fix the record. A mark of any number but 0 is tagged, so it is no `bool`.
     pub mark: u8,
+}
+
+/// The word and the tag that a record stands for.
+impl From<Granule> for (u64, bool) {
+    ghost from_gives = { λ granule cell. cell ≡ meaning granule };
+
+    fn from(granule: Granule) -> (u64, bool) {
+        (granule.word, granule.mark != 0)
+    }
 }
 
 /// Granule i is record i.
@@ -37,7 +41,7 @@ impl<'a> Store for Words<'a> {
     ghost short = { λ s. records_short s.granules.now };
 
     fn first(&self) -> u32 {
-        FIRST
+        0
     }
 
     /// As many granules as there are records.
@@ -46,12 +50,8 @@ impl<'a> Store for Words<'a> {
     }
 
     fn get(&self, i: u32) -> Result<(u64, bool), Refusal> {
-        if i < self.count() {
-            let granule = self.granules[i as usize];
-            Ok((granule.word, granule.mark != 0))
-        } else {
-            Err(Refusal::NoSuchGranule)
-        }
+        let k = self.place(i)?;
+        Ok(self.granules[k].into())
     }
 
     /// Sets one record. Every other stays.
@@ -63,12 +63,9 @@ impl<'a> Store for Words<'a> {
         ensures held { records_kept self.new.granules.ghost_name self.new.granules.now ≡ records_kept self.old.granules.ghost_name self.old.granules.now }
         ensures records { self.new.granules.now ≡ records_after self.old.granules.now i word tag }
     {
-        if i < self.count() {
-            let mark = u8::from(tag);
-            self.granules[i as usize] = Granule { word, mark };
-            Ok(())
-        } else {
-            Err(Refusal::NoSuchGranule)
-        }
+        let k = self.place(i)?;
+        let mark = u8::from(tag);
+        self.granules[k] = Granule { word, mark };
+        Ok(())
     }
 }

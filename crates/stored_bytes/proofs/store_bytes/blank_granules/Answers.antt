@@ -1,11 +1,7 @@
-use Rattle.std.proofs.Common.{◌≡◌, ℕ, false, List, set, refl, ap, ◌∙◌, arith}
+use Rattle.std.proofs.Common.{false, List, set, refl, ap, ◌∙◌, arith}
 use Rattle.store.specs.Cells.{Cell}
-use Rattle.stored_bytes.specs.Bytes.{renewed}
-use Rattle.stored_bytes.proofs.Renewed.{renewed_none, renewed_more}
+use Rattle.stored_bytes.proofs.Renewed.{none, renewed_none, renewed_more}
 use Rattle.stored_bytes.proofs.store_bytes.blank_granules.Goals as goal
-
-abbrev none : ℕ → Cell
-none i = (0, false)
 
 pub loop-i-init : goal.loop-i-init
 loop-i-init g c = (renewed_none none (g.S.Store.cells c.args.store.now) c.args.low, refl, refl)
@@ -18,12 +14,3 @@ loop-i-preserved g c = (
   c.set.ensures.fixed ∙ c.loop-i.invariant.1,
   c.set.ensures.held ∙ c.loop-i.invariant.2,
 )
-
-pub returns : goal.returns
-returns g c =
-    let e : c.loop-i.i ≡ c.args.high = omega arith in
-    record {
-      after = c.loop-i.invariant.0 ∙ ap (renewed none (g.S.Store.cells c.args.store.now) c.args.low) e;
-      fixed = c.loop-i.invariant.1;
-      held = c.loop-i.invariant.2;
-    }

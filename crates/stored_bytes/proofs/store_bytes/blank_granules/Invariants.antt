@@ -1,9 +1,10 @@
-use Rattle.std.proofs.Common.{◌≡◌, ℕ, false}
+use Rattle.std.proofs.Common.{◌≡◌}
 use Rattle.stored_bytes.specs.Bytes.{renewed}
+use Rattle.stored_bytes.proofs.Renewed.{none}
 use Rattle.stored_bytes.proofs.store_bytes.blank_granules.Given as goal
 
 abbrev pub invariant-loop-i : goal.invariant-loop-i
 invariant-loop-i g l =
-    (g.S.Store.cells l.store ≡ renewed (λ (i : ℕ). (0, false)) (g.S.Store.cells l.initial.store) l.low l.i)
+    (g.S.Store.cells l.store ≡ renewed none (g.S.Store.cells l.initial.store) l.low l.i)
     × (g.S.Store.origin l.store ≡ g.S.Store.origin l.initial.store)
     × (g.S.Store.kept l.store ≡ g.S.Store.kept l.initial.store)

@@ -3,8 +3,8 @@ use Rattle.stored_bytes.specs.Bytes.{stored}
 use Rattle.stored_bytes.proofs.Stored.{stored_parts}
 use Rattle.stored_bytes.proofs.store_bytes.put_number.Goals as goal
 
-pub returns-then-here-width : goal.returns-then-here-width
-returns-then-here-width g c =
+pub returns-then-here-width-clause-after : goal.returns-then-here-width-clause-after
+returns-then-here-width-clause-after g c =
     let f = g.S.Store.origin c.args.store.now in
     let xs = g.S.Store.cells c.args.store.now in
     let ys = g.S.Store.cells c.put_within.new.store in
@@ -15,12 +15,8 @@ returns-then-here-width g c =
     let h = c.min-here.result in
     let at : 8 * (x / 8) + x % 8 ≡ x = omega arith in
     let next : 8 * (x / 8 + 1) + 0 ≡ x + h = omega arith in
-    record {
-      after = stored_parts f xs ys zs x n h v (omega arith) (omega arith) (omega arith) (omega arith)
-          (c.put_within.ensures.after ∙ ap (λ (a : ℕ). stored f xs a h v) at)
-          (c.put_within-then-here-width.ensures.after
-          ∙ ap (λ (o : ℕ). stored o ys (8 * (x / 8 + 1) + 0) (n - h) (v / 2 ^ (8 * h))) c.put_within.ensures.fixed
-          ∙ ap (λ (a : ℕ). stored f ys a (n - h) (v / 2 ^ (8 * h))) next);
-      fixed = c.put_within-then-here-width.ensures.fixed ∙ c.put_within.ensures.fixed;
-      held = c.put_within-then-here-width.ensures.held ∙ c.put_within.ensures.held;
-    }
+    stored_parts f xs ys zs x n h v (omega arith) (omega arith) (omega arith) (omega arith)
+    (c.put_within.ensures.after ∙ ap (λ (a : ℕ). stored f xs a h v) at)
+    (c.put_within-then-here-width.ensures.after
+    ∙ ap (λ (o : ℕ). stored o ys (8 * (x / 8 + 1) + 0) (n - h) (v / 2 ^ (8 * h))) c.put_within.ensures.fixed
+    ∙ ap (λ (a : ℕ). stored f ys a (n - h) (v / 2 ^ (8 * h))) next)

@@ -1,25 +1,24 @@
-use Rattle.std.proofs.Common.{◌≡◌, ℕ, ◌+◌, ◌-◌, ◌*◌, ◌^◌, ◌<◌, false, refl, ap, ◌∙◌, arith}
+use Rattle.std.proofs.Common.{◌≡◌, ℕ, ◌+◌, ◌*◌, ◌^◌, ◌<◌, ◌≤◌, false, ap, ◌∙◌, arith}
 use Rattle.stored_bytes.proofs.Renewed.{renewed_none, renewed_one, renewed_touched}
 use Rattle.stored_bytes.proofs.Stored.{fresh, written_is}
 use Rattle.stored_bytes.proofs.store_bytes.put_within.Goals as goal
 
-pub returns-then-granule-first : goal.returns-then-granule-first
-returns-then-granule-first g c =
+pub returns-in_default-clause-after : goal.returns-in_default-clause-after
+returns-in_default-clause-after g c =
     let f = g.S.Store.origin c.args.store.now in
     let xs = g.S.Store.cells c.args.store.now in
     let x = 8 * c.args.granule + c.args.start in
     let new = fresh f xs x c.args.width c.args.value in
-    record {
-      after = renewed_none new xs 0 ∙ renewed_touched new f xs x c.args.width 0 0 (omega arith) (omega arith) (omega arith);
-      fixed = refl;
-      held = refl;
-    }
+    let above : f ≤ c.args.granule → ⊥ = λ h. c.in_default.ensures (omega arith) in
+    let below : c.args.granule < f = omega (arith, above) in
+    renewed_none new xs 0 ∙ renewed_touched new f xs x c.args.width 0 0 (omega arith) (omega arith) (omega arith)
 
-pub returns : goal.returns
-returns g c =
+pub returns-clause-after : goal.returns-clause-after
+returns-clause-after g c =
     let f = g.S.Store.origin c.args.store.now in
     let xs = g.S.Store.cells c.args.store.now in
-    let i = c.args.granule - c.first-first.result in
+    let i = c.in-Some.i in
+    let has = c.in-Some.ensures in
     let x = 8 * c.args.granule + c.args.start in
     let n = c.args.width in
     let v = c.args.value in
@@ -28,10 +27,6 @@ returns g c =
     let fits : c.word_at.result < 2 ^ 64 = omega arith in
     let word : w ≡ (new i).0 =
     written_is f xs x n i c.args.start (c.args.start + n) c.word_at.result v w (omega arith) (omega arith) (omega arith) (omega arith) (omega arith) c.word_at.ensures fits c.merge-word.ensures in
-    record {
-      after = c.set.ensures.after
-          ∙ renewed_one new xs i (w, false) (ap (λ (k : ℕ). (k, false)) word)
-          ∙ renewed_touched new f xs x n i (i + 1) (omega arith) (omega arith) (omega arith);
-      fixed = c.set.ensures.fixed;
-      held = c.set.ensures.held;
-    }
+    c.set.ensures.after
+    ∙ renewed_one new xs i (w, false) (ap (λ (k : ℕ). (k, false)) word)
+    ∙ renewed_touched new f xs x n i (i + 1) (omega arith) (omega arith) (omega arith)
