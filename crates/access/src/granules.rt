@@ -3,14 +3,14 @@ ghost use Rattle.std.specs.Prelude.{◌≡◌, ℕ, List};
 ghost use Rattle.plain.specs.declared.types.Sweep.{Sweep};
 ghost use Rattle.plain.specs.Blocks.{Entry};
 ghost use Rattle.plain.specs.Memory.{Matches, may_put, call_fetch, call_put};
-ghost use Rattle.table.specs.Recorded.{recorded};
 ghost use Rattle.slots.specs.Parts.{made_of};
 
 use capability::format::Format;
 use capability::refusal::Refusal;
 use capability::types::{Capability, Right};
 use plain::types::Slot;
-use slots::reads::{SLOTS, global, pointed, spared, tagged_in};
+use slots::number::SlotNumber;
+use slots::reads::{global, pointed, spared};
 use slots::slots::Slots;
 use store::Store;
 use stored_bytes::store_bytes::granule_at;
@@ -32,22 +32,19 @@ pub fn fetch<F: Format, S: Store>(
     to: u32,
     through: u32,
 ) -> Result<u64, Refusal>
-    ensures { (next : ℕ) (sweep : Sweep) → Matches (call_fetch F.Format.meaning (made_of slots.old.cells (recorded table.now) next sweep (S.Store.origin store.now) (S.Store.cells store.now)) to through) result (made_of slots.new.cells (recorded table.now) next sweep (S.Store.origin store.now) (S.Store.cells store.now)) }
+    ensures { (next : ℕ) (sweep : Sweep) → Matches (call_fetch F.Format.meaning (made_of slots.old.cells table.now next sweep (S.Store.origin store.now) (S.Store.cells store.now)) to through) result (made_of slots.new.cells table.now next sweep (S.Store.origin store.now) (S.Store.cells store.now)) }
 {
-    if to >= SLOTS {
-        return Err(Refusal::NoSuchSlot);
-    }
-    if through >= SLOTS {
-        return Err(Refusal::NoSuchSlot);
-    }
-    let c = tagged_in::<F>(slots, through)?;
+    let to = SlotNumber::try_from(to)?;
+    let through = SlotNumber::try_from(through)?;
+    let c = slots.tagged::<F>(through)?;
     if !c.has(Right::LoadCapabilities) {
         return Err(Refusal::MissingRight);
     }
     let i = pointed(store, c)?;
     let (word, old) = granule_at(store, i);
     let tag = spared::<F>(table, word, old);
-    slots.cells[to as usize] = Slot { word, tag };
+    slots.set(to, Slot { word, tag });
+    // Every call answers a number, as the rules want it.
     Ok(u64::from(tag))
 }
 
@@ -61,14 +58,10 @@ pub fn put<F: Format, S: Store>(
     ensures does { (blocks : List Entry) (next : ℕ) (sweep : Sweep) → Matches (call_put F.Format.meaning (made_of slots.now.cells blocks next sweep (S.Store.origin store.old) (S.Store.cells store.old)) through from) result (made_of slots.now.cells blocks next sweep (S.Store.origin store.new) (S.Store.cells store.new)) }
     ensures held { S.Store.kept store.new ≡ S.Store.kept store.old }
 {
-    if through >= SLOTS {
-        return Err(Refusal::NoSuchSlot);
-    }
-    if from >= SLOTS {
-        return Err(Refusal::NoSuchSlot);
-    }
-    let c = tagged_in::<F>(slots, through)?;
-    let slot = slots.cells[from as usize];
+    let through = SlotNumber::try_from(through)?;
+    let from = SlotNumber::try_from(from)?;
+    let c = slots.tagged::<F>(through)?;
+    let slot = slots.get(from);
     if !(c.has(Right::StoreCapabilities) && may_store::<F>(c, slot)) {
         return Err(Refusal::MissingRight);
     }

@@ -8,7 +8,8 @@ ghost use Rattle.slots.specs.Parts.{made_of};
 use capability::format::Format;
 use capability::refusal::Refusal;
 use capability::types::Right;
-use slots::reads::{SLOTS, inside, is_width, tagged_in};
+use slots::number::SlotNumber;
+use slots::reads::{inside, is_width};
 use slots::slots::Slots;
 use store::Store;
 use stored_bytes::store_bytes::{number_at, put_number};
@@ -18,13 +19,11 @@ fn accessed<F: Format>(slots: &Slots, a: u32, right: Right, width: u32) -> Resul
     ensures is { result ≡ access F.Format.meaning slots.now.cells a right width }
     ensures within { IfOk result (λ x. (0 < width) × (width ≤ 8)) }
 {
-    if a >= SLOTS {
-        return Err(Refusal::NoSuchSlot);
-    }
+    let number = SlotNumber::try_from(a)?;
     if !is_width(width) {
         return Err(Refusal::BadParameter);
     }
-    let c = tagged_in::<F>(slots, a)?;
+    let c = slots.tagged::<F>(number)?;
     if !c.has(right) {
         return Err(Refusal::MissingRight);
     }

@@ -3,40 +3,18 @@
 
 ghost use Rattle.std.specs.Prelude.{◌≡◌, ℕ};
 ghost use Rattle.plain.specs.declared.types.Sweep.{Sweep};
-ghost use Rattle.plain.specs.Memory.{Matches, may_carry, covered as is_covered, call_copy};
-ghost use Rattle.table.specs.Recorded.{recorded};
+ghost use Rattle.plain.specs.Memory.{Matches, covered as is_covered, call_copy};
 ghost use Rattle.slots.specs.Parts.{made_of};
 
 use capability::format::Format;
 use capability::refusal::Refusal;
 use capability::types::{Capability, Right};
-use copying::{Test, copy_bytes};
-use slots::reads::{SLOTS, condemned, global, inside, tagged_in};
+use copying::copy_bytes;
+use slots::number::SlotNumber;
+use slots::reads::{condemned, global, inside};
 use slots::slots::Slots;
-use std::marker::PhantomData;
 use store::Store;
 use table::table::Table;
-
-// Which words a copy from one capability to another carries with their tags.
-#[derive(Drop)]
-struct Carriage<'t, F> {
-    table: &'t Table,
-    to: Capability,
-    from: Capability,
-    format: PhantomData<F>,
-}
-
-impl<'t, F: Format> Test for Carriage<'t, F> {
-    ghost passes = { λ s w. may_carry F.Format.meaning (recorded s.table.now) s.to s.from w };
-
-    fn test(&self, word: u64) -> bool {
-        let _format: PhantomData<F> = PhantomData;
-        self.from.has(Right::LoadCapabilities)
-            && self.to.has(Right::StoreCapabilities)
-            && (self.to.has(Right::StoreLocal) || global::<F>(word))
-            && !condemned::<F>(self.table, word)
-    }
-}
 
 // Whether a copy of n bytes may use the bytes at a capability's address; one of no bytes may.
 fn covered<S: Store>(store: &S, c: Capability, n: u32) -> bool
@@ -59,30 +37,29 @@ pub fn copy<F: Format, S: Store>(
     from: u32,
     size: u32,
 ) -> Result<u64, Refusal>
-    ensures does { (next : ℕ) (sweep : Sweep) → Matches (call_copy F.Format.meaning (made_of slots.now.cells (recorded table.now) next sweep (S.Store.origin store.old) (S.Store.cells store.old)) to from size) result (made_of slots.now.cells (recorded table.now) next sweep (S.Store.origin store.new) (S.Store.cells store.new)) }
+    ensures does { (next : ℕ) (sweep : Sweep) → Matches (call_copy F.Format.meaning (made_of slots.now.cells table.now next sweep (S.Store.origin store.old) (S.Store.cells store.old)) to from size) result (made_of slots.now.cells table.now next sweep (S.Store.origin store.new) (S.Store.cells store.new)) }
     ensures held { S.Store.kept store.new ≡ S.Store.kept store.old }
 {
-    if to >= SLOTS {
-        return Err(Refusal::NoSuchSlot);
-    }
-    if from >= SLOTS {
-        return Err(Refusal::NoSuchSlot);
-    }
-    let into = tagged_in::<F>(slots, to)?;
-    let source = tagged_in::<F>(slots, from)?;
+    let to = SlotNumber::try_from(to)?;
+    let from = SlotNumber::try_from(from)?;
+    let into = slots.tagged::<F>(to)?;
+    let source = slots.tagged::<F>(from)?;
     if !(into.has(Right::StoreData) && source.has(Right::LoadData)) {
         return Err(Refusal::MissingRight);
     }
     if !(covered(store, into, size) && covered(store, source, size)) {
         return Err(Refusal::OutOfBounds);
     }
-    let format: PhantomData<F> = PhantomData;
-    let test = Carriage {
-        table,
-        to: into,
-        from: source,
-        format,
-    };
-    let carried = copy_bytes(store, &test, into.address, source.address, size);
+    // A granule is carried where both capabilities allow it, what it holds may lie there, and its block is not condemned.
+    let carried = copy_bytes(
+        store,
+        |word| source.has(Right::LoadCapabilities)
+            && into.has(Right::StoreCapabilities)
+            && (into.has(Right::StoreLocal) || global::<F>(word))
+            && !condemned::<F>(table, word),
+        into.address,
+        source.address,
+        size,
+    );
     Ok(carried as u64)
 }

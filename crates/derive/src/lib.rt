@@ -12,22 +12,23 @@ ghost use Rattle.derive.specs.Filled.{filled};
 
 use capability::format::Format;
 use capability::refusal::Refusal;
-use capability::types::Capability;
+use capability::types::{ALL_RIGHTS, Capability};
 use plain::types::Slot;
-use slots::reads::{SLOTS, inside, tagged_in};
+use slots::number::SlotNumber;
+use slots::reads::inside;
 use slots::slots::Slots;
 
-/// Every right.
-const ALL_RIGHTS: u32 = 63;
-
 // The slot becomes a capability, if the format carries it.
-fn put_capability<F: Format>(slots: &mut Slots, slot: u32, c: Capability) -> Result<u64, Refusal>
-    requires { slot < slot_count }
+fn put_capability<F: Format>(
+    slots: &mut Slots,
+    slot: SlotNumber,
+    c: Capability,
+) -> Result<u64, Refusal>
     ensures outcome { result ≡ found (written F.Format.meaning c) (λ _. Ok 0) }
     ensures after { slots.new.cells ≡ filled slots.old.cells slot (written F.Format.meaning c) }
 {
     let word = F::write(c)?;
-    slots.cells[slot as usize] = Slot { word, tag: true };
+    slots.set(slot, Slot { word, tag: true });
     Ok(0)
 }
 
@@ -40,23 +41,10 @@ pub fn move_to<F: Format>(
 ) -> Result<u64, Refusal>
     ensures { (blocks : List Entry) (next : ℕ) (sweep : Sweep) (first : ℕ) (cells : List Cell) → Matches (call_move F.Format.meaning (made_of slots.old.cells blocks next sweep first cells) to from address) result (made_of slots.new.cells blocks next sweep first cells) }
 {
-    if to >= SLOTS {
-        return Err(Refusal::NoSuchSlot);
-    }
-    if from >= SLOTS {
-        return Err(Refusal::NoSuchSlot);
-    }
-    let c = tagged_in::<F>(slots, from)?;
-    put_capability::<F>(
-        slots,
-        to,
-        Capability {
-            base: c.base,
-            top: c.top,
-            address,
-            rights: c.rights,
-        },
-    )
+    let to = SlotNumber::try_from(to)?;
+    let from = SlotNumber::try_from(from)?;
+    let c = slots.tagged::<F>(from)?;
+    put_capability::<F>(slots, to, Capability { address, ..c })
 }
 
 /// The capability of `from`, with bounds inside the old ones and its address at the new base, into `to`.
@@ -69,16 +57,12 @@ pub fn narrow<F: Format>(
 ) -> Result<u64, Refusal>
     ensures { (blocks : List Entry) (next : ℕ) (sweep : Sweep) (first : ℕ) (cells : List Cell) → Matches (call_narrow F.Format.meaning (made_of slots.old.cells blocks next sweep first cells) to from base length) result (made_of slots.new.cells blocks next sweep first cells) }
 {
-    if to >= SLOTS {
-        return Err(Refusal::NoSuchSlot);
-    }
-    if from >= SLOTS {
-        return Err(Refusal::NoSuchSlot);
-    }
+    let to = SlotNumber::try_from(to)?;
+    let from = SlotNumber::try_from(from)?;
     if length == 0 {
         return Err(Refusal::BadParameter);
     }
-    let c = tagged_in::<F>(slots, from)?;
+    let c = slots.tagged::<F>(from)?;
     if !inside(c, base, length) {
         return Err(Refusal::OutOfBounds);
     }
@@ -90,7 +74,7 @@ pub fn narrow<F: Format>(
             base,
             top,
             address: base,
-            rights: c.rights,
+            ..c
         },
     )
 }
@@ -99,25 +83,12 @@ pub fn narrow<F: Format>(
 pub fn restrict<F: Format>(slots: &mut Slots, to: u32, from: u32, mask: u32) -> Result<u64, Refusal>
     ensures { (blocks : List Entry) (next : ℕ) (sweep : Sweep) (first : ℕ) (cells : List Cell) → Matches (call_restrict F.Format.meaning (made_of slots.old.cells blocks next sweep first cells) to from mask) result (made_of slots.new.cells blocks next sweep first cells) }
 {
-    if to >= SLOTS {
-        return Err(Refusal::NoSuchSlot);
-    }
-    if from >= SLOTS {
-        return Err(Refusal::NoSuchSlot);
-    }
-    if mask > ALL_RIGHTS {
+    let to = SlotNumber::try_from(to)?;
+    let from = SlotNumber::try_from(from)?;
+    if mask > u32::from(ALL_RIGHTS) {
         return Err(Refusal::BadParameter);
     }
-    let c = tagged_in::<F>(slots, from)?;
+    let c = slots.tagged::<F>(from)?;
     let rights = c.rights & mask as u8;
-    put_capability::<F>(
-        slots,
-        to,
-        Capability {
-            base: c.base,
-            top: c.top,
-            address: c.address,
-            rights,
-        },
-    )
+    put_capability::<F>(slots, to, Capability { rights, ..c })
 }

@@ -1,15 +1,13 @@
 -- Units, and where usable granules end. Assumes nothing.
-use Rattle.std.proofs.Common.{◌≡◌, ℕ, ◌+◌, ◌-◌, ◌*◌, ◌/◌, ◌%◌, ◌^◌, ◌<◌, ◌≤◌, Bool, true, false, cond, ◌&&◌, leb, List, Ok, Err, refl, ap, ◌∙◌, arith, pow_pos, pow_mono, pow-add}
+use Rattle.std.proofs.Common.{◌≡◌, ℕ, ◌+◌, ◌-◌, ◌*◌, ◌/◌, ◌%◌, ◌^◌, ◌<◌, ◌≤◌, Bool, true, false, cond, ◌&&◌, leb, Ok, Err, refl, ap, ◌∙◌, arith, pow_pos, pow_mono, pow-add}
 use Rattle.std.proofs.lemmas.Bool.{and_parts, leb-true}
 use Rattle.std.proofs.lemmas.Nat.{div-add-mod'}
 use Rattle.capability.specs.Formats.{Meaning, Lawful, rounded, unit_for}
-use Rattle.store.specs.Cells.{Cell}
-use Rattle.plain.specs.Memory.{usable}
 use Rattle.table.proofs.Rooms.{multiple_past, multiple_near, multiple_even}
 
 granted : {T E : Type 0} (b : Bool) (x u : T) (e : E) → Ok u ≡ cond b (Ok x) (Err e) → (b ≡ true) × (u ≡ x)
 granted true x u e h = (refl, cc)
-granted false x u e h = let z : ◌≡◌ {A = ℕ} 0 1 = cc in absurd (omega arith)
+granted false x u e h = cc
 
 -- what is known of a unit that was given
 pub record GivenUnit (size unit : ℕ) : Type 0 where
@@ -59,10 +57,6 @@ rounded_size size unit g =
     let near = multiple_near size unit g.positive in
     let even = multiple_even ((size + (unit - 1)) / unit) unit g.positive in
     record { positive = omega (arith, g.some); small = omega (arith, g.most, g.small); granules = g.granules (rounded size unit) even; even = even }
-
--- usable granules end within the span
-pub usable_ends : (m : Meaning) → Lawful m → (first : ℕ) (cells : List Cell) → 0 < usable m first cells → 8 * (first + usable m first cells) ≤ 4294967288
-usable_ends m laws first cells h = omega (arith, laws.span_high)
 
 -- the sum of two multiples of 8 is one
 pub sum_granules : (x y : ℕ) → x % 8 ≡ 0 → y % 8 ≡ 0 → (x + y) % 8 ≡ 0

@@ -1,20 +1,20 @@
 //! The calls, each a method with numbers as parameters. What a call does to the parts of the memory is done in the crates below.
+//! The function there takes only the parts that the call touches, so that its contract says what it cannot touch; no two of the
+//! parts go together in every call.
 ghost use Rattle.std.specs.Prelude.{◌≡◌};
 ghost use Rattle.plain.specs.Memory.{Matches, call_allocate, call_free, call_move, call_narrow, call_restrict, call_load, call_store, call_fetch, call_put, call_copy, call_open, call_advance, call_close, call_whose, call_tally};
-ghost use Rattle.memory.specs.Of.{plain};
+ghost use Rattle.memory.specs.Of.{plain, Keeps};
 
 use crate::memory::Memory;
 use capability::format::Format;
 use capability::refusal::Refusal;
-use std::marker::PhantomData;
 use store::Store;
 
 impl<F: Format, S: Store> Memory<'_, F, S> {
     /// A new block at the lowest multiple of the unit where it has room; its capability goes to the slot. Answers its serial.
     pub fn allocate(&mut self, slot: u32, size: u32) -> Result<u64, Refusal>
         ensures does { Matches (call_allocate F.Format.meaning (plain S.Store.origin S.Store.cells self.old) slot size) result (plain S.Store.origin S.Store.cells self.new) }
-        ensures named { self.new.store.ghost_name ≡ self.old.store.ghost_name }
-        ensures held { S.Store.kept self.new.store.now ≡ S.Store.kept self.old.store.now }
+        ensures keeps { Keeps S.Store.kept self.old self.new }
     {
         heap::allocate::<F, S>(
             &mut self.slots,
@@ -29,8 +29,7 @@ impl<F: Format, S: Store> Memory<'_, F, S> {
     /// The block of the slot's capability turns freed. Answers its serial.
     pub fn free(&mut self, slot: u32) -> Result<u64, Refusal>
         ensures does { Matches (call_free F.Format.meaning (plain S.Store.origin S.Store.cells self.old) slot) result (plain S.Store.origin S.Store.cells self.new) }
-        ensures named { self.new.store.ghost_name ≡ self.old.store.ghost_name }
-        ensures held { S.Store.kept self.new.store.now ≡ S.Store.kept self.old.store.now }
+        ensures keeps { Keeps S.Store.kept self.old self.new }
     {
         heap::free::<F>(&self.slots, &mut self.table, slot)
     }
@@ -38,8 +37,7 @@ impl<F: Format, S: Store> Memory<'_, F, S> {
     /// The capability of `from`, with another address, into `to`. The system's word for it is move.
     pub fn move_to(&mut self, to: u32, from: u32, address: u32) -> Result<u64, Refusal>
         ensures does { Matches (call_move F.Format.meaning (plain S.Store.origin S.Store.cells self.old) to from address) result (plain S.Store.origin S.Store.cells self.new) }
-        ensures named { self.new.store.ghost_name ≡ self.old.store.ghost_name }
-        ensures held { S.Store.kept self.new.store.now ≡ S.Store.kept self.old.store.now }
+        ensures keeps { Keeps S.Store.kept self.old self.new }
     {
         derive::move_to::<F>(&mut self.slots, to, from, address)
     }
@@ -47,8 +45,7 @@ impl<F: Format, S: Store> Memory<'_, F, S> {
     /// The capability of `from`, with bounds inside the old ones and its address at the new base, into `to`.
     pub fn narrow(&mut self, to: u32, from: u32, base: u32, length: u64) -> Result<u64, Refusal>
         ensures does { Matches (call_narrow F.Format.meaning (plain S.Store.origin S.Store.cells self.old) to from base length) result (plain S.Store.origin S.Store.cells self.new) }
-        ensures named { self.new.store.ghost_name ≡ self.old.store.ghost_name }
-        ensures held { S.Store.kept self.new.store.now ≡ S.Store.kept self.old.store.now }
+        ensures keeps { Keeps S.Store.kept self.old self.new }
     {
         derive::narrow::<F>(&mut self.slots, to, from, base, length)
     }
@@ -56,8 +53,7 @@ impl<F: Format, S: Store> Memory<'_, F, S> {
     /// The capability of `from`, with only those rights that are in the mask too, into `to`.
     pub fn restrict(&mut self, to: u32, from: u32, mask: u32) -> Result<u64, Refusal>
         ensures does { Matches (call_restrict F.Format.meaning (plain S.Store.origin S.Store.cells self.old) to from mask) result (plain S.Store.origin S.Store.cells self.new) }
-        ensures named { self.new.store.ghost_name ≡ self.old.store.ghost_name }
-        ensures held { S.Store.kept self.new.store.now ≡ S.Store.kept self.old.store.now }
+        ensures keeps { Keeps S.Store.kept self.old self.new }
     {
         derive::restrict::<F>(&mut self.slots, to, from, mask)
     }
@@ -65,8 +61,7 @@ impl<F: Format, S: Store> Memory<'_, F, S> {
     /// Answers the bytes at the capability's address, the lowest first.
     pub fn load(&mut self, slot: u32, width: u32) -> Result<u64, Refusal>
         ensures does { Matches (call_load F.Format.meaning (plain S.Store.origin S.Store.cells self.old) slot width) result (plain S.Store.origin S.Store.cells self.new) }
-        ensures named { self.new.store.ghost_name ≡ self.old.store.ghost_name }
-        ensures held { S.Store.kept self.new.store.now ≡ S.Store.kept self.old.store.now }
+        ensures keeps { Keeps S.Store.kept self.old self.new }
     {
         access::load::<F, S>(&self.slots, self.store, slot, width)
     }
@@ -74,8 +69,7 @@ impl<F: Format, S: Store> Memory<'_, F, S> {
     /// Writes the low bytes of the value there, and untags each granule that they touch.
     pub fn store(&mut self, slot: u32, width: u32, value: u64) -> Result<u64, Refusal>
         ensures does { Matches (call_store F.Format.meaning (plain S.Store.origin S.Store.cells self.old) slot width value) result (plain S.Store.origin S.Store.cells self.new) }
-        ensures named { self.new.store.ghost_name ≡ self.old.store.ghost_name }
-        ensures held { S.Store.kept self.new.store.now ≡ S.Store.kept self.old.store.now }
+        ensures keeps { Keeps S.Store.kept self.old self.new }
     {
         access::store::<F, S>(&self.slots, self.store, slot, width, value)
     }
@@ -84,8 +78,7 @@ impl<F: Format, S: Store> Memory<'_, F, S> {
     /// if the slot is then tagged, else 0.
     pub fn fetch(&mut self, to: u32, through: u32) -> Result<u64, Refusal>
         ensures does { Matches (call_fetch F.Format.meaning (plain S.Store.origin S.Store.cells self.old) to through) result (plain S.Store.origin S.Store.cells self.new) }
-        ensures named { self.new.store.ghost_name ≡ self.old.store.ghost_name }
-        ensures held { S.Store.kept self.new.store.now ≡ S.Store.kept self.old.store.now }
+        ensures keeps { Keeps S.Store.kept self.old self.new }
     {
         access::fetch::<F, S>(&mut self.slots, &self.table, self.store, to, through)
     }
@@ -93,8 +86,7 @@ impl<F: Format, S: Store> Memory<'_, F, S> {
     /// The word and the tag of `from` into the granule at the address of `through`.
     pub fn put(&mut self, through: u32, from: u32) -> Result<u64, Refusal>
         ensures does { Matches (call_put F.Format.meaning (plain S.Store.origin S.Store.cells self.old) through from) result (plain S.Store.origin S.Store.cells self.new) }
-        ensures named { self.new.store.ghost_name ≡ self.old.store.ghost_name }
-        ensures held { S.Store.kept self.new.store.now ≡ S.Store.kept self.old.store.now }
+        ensures keeps { Keeps S.Store.kept self.old self.new }
     {
         access::put::<F, S>(&self.slots, self.store, through, from)
     }
@@ -103,8 +95,7 @@ impl<F: Format, S: Store> Memory<'_, F, S> {
     /// with their tags.
     pub fn copy(&mut self, to: u32, from: u32, size: u32) -> Result<u64, Refusal>
         ensures does { Matches (call_copy F.Format.meaning (plain S.Store.origin S.Store.cells self.old) to from size) result (plain S.Store.origin S.Store.cells self.new) }
-        ensures named { self.new.store.ghost_name ≡ self.old.store.ghost_name }
-        ensures held { S.Store.kept self.new.store.now ≡ S.Store.kept self.old.store.now }
+        ensures keeps { Keeps S.Store.kept self.old self.new }
     {
         carry::copy::<F, S>(&self.slots, &self.table, self.store, to, from, size)
     }
@@ -112,8 +103,7 @@ impl<F: Format, S: Store> Memory<'_, F, S> {
     /// Freed blocks turn condemned, the slots of condemned blocks are untagged, and a sweep begins. Answers how many blocks.
     pub fn open(&mut self) -> Result<u64, Refusal>
         ensures does { Matches (call_open F.Format.meaning (plain S.Store.origin S.Store.cells self.old)) result (plain S.Store.origin S.Store.cells self.new) }
-        ensures named { self.new.store.ghost_name ≡ self.old.store.ghost_name }
-        ensures held { S.Store.kept self.new.store.now ≡ S.Store.kept self.old.store.now }
+        ensures keeps { Keeps S.Store.kept self.old self.new }
     {
         sweep::open::<F>(&mut self.slots, &mut self.table, &mut self.sweep)
     }
@@ -121,8 +111,7 @@ impl<F: Format, S: Store> Memory<'_, F, S> {
     /// The sweep passes the next granules, as many as asked for or as remain. Answers how many.
     pub fn advance(&mut self, count: u32) -> Result<u64, Refusal>
         ensures does { Matches (call_advance F.Format.meaning (plain S.Store.origin S.Store.cells self.old) count) result (plain S.Store.origin S.Store.cells self.new) }
-        ensures named { self.new.store.ghost_name ≡ self.old.store.ghost_name }
-        ensures held { S.Store.kept self.new.store.now ≡ S.Store.kept self.old.store.now }
+        ensures keeps { Keeps S.Store.kept self.old self.new }
     {
         sweep::advance::<F, S>(&self.table, &mut self.sweep, self.store, count)
     }
@@ -130,8 +119,7 @@ impl<F: Format, S: Store> Memory<'_, F, S> {
     /// Condemned blocks leave the record, and the sweep ends. Answers their bytes.
     pub fn close(&mut self) -> Result<u64, Refusal>
         ensures does { Matches (call_close F.Format.meaning (plain S.Store.origin S.Store.cells self.old)) result (plain S.Store.origin S.Store.cells self.new) }
-        ensures named { self.new.store.ghost_name ≡ self.old.store.ghost_name }
-        ensures held { S.Store.kept self.new.store.now ≡ S.Store.kept self.old.store.now }
+        ensures keeps { Keeps S.Store.kept self.old self.new }
     {
         sweep::close::<F, S>(&mut self.table, &mut self.sweep, self.store)
     }
@@ -139,8 +127,7 @@ impl<F: Format, S: Store> Memory<'_, F, S> {
     /// Answers the serial of the capability's block.
     pub fn whose(&mut self, slot: u32) -> Result<u64, Refusal>
         ensures does { Matches (call_whose F.Format.meaning (plain S.Store.origin S.Store.cells self.old) slot) result (plain S.Store.origin S.Store.cells self.new) }
-        ensures named { self.new.store.ghost_name ≡ self.old.store.ghost_name }
-        ensures held { S.Store.kept self.new.store.now ≡ S.Store.kept self.old.store.now }
+        ensures keeps { Keeps S.Store.kept self.old self.new }
     {
         heap::whose::<F>(&self.slots, &self.table, slot)
     }
@@ -148,10 +135,8 @@ impl<F: Format, S: Store> Memory<'_, F, S> {
     /// Answers the bytes summed over every block on record.
     pub fn tally(&mut self) -> Result<u64, Refusal>
         ensures does { Matches (call_tally (plain S.Store.origin S.Store.cells self.old)) result (plain S.Store.origin S.Store.cells self.new) }
-        ensures named { self.new.store.ghost_name ≡ self.old.store.ghost_name }
-        ensures held { S.Store.kept self.new.store.now ≡ S.Store.kept self.old.store.now }
+        ensures keeps { Keeps S.Store.kept self.old self.new }
     {
-        let _format: PhantomData<F> = PhantomData;
         Ok(self.table.bytes())
     }
 }

@@ -2,7 +2,7 @@
 ghost use Rattle.std.specs.Prelude.{◌≡◌};
 ghost use Rattle.plain.specs.Memory.{Matches};
 ghost use Rattle.plain.specs.Step.{step};
-ghost use Rattle.memory.specs.Of.{plain};
+ghost use Rattle.memory.specs.Of.{plain, Keeps};
 
 use crate::memory::Memory;
 use capability::format::Format;
@@ -12,11 +12,12 @@ use store::Store;
 
 impl<F: Format, S: Store> Memory<'_, F, S> {
     /// Makes a call: it answers and leaves what the plain memory does.
+    #[tactic(auto, unfolding(plain::specs::Step::step))]
     pub fn perform(&mut self, call: Call) -> Result<u64, Refusal>
         ensures does { Matches (step F.Format.meaning (plain S.Store.origin S.Store.cells self.old) call) result (plain S.Store.origin S.Store.cells self.new) }
-        ensures named { self.new.store.ghost_name ≡ self.old.store.ghost_name }
-        ensures held { S.Store.kept self.new.store.now ≡ S.Store.kept self.old.store.now }
+        ensures keeps { Keeps S.Store.kept self.old self.new }
     {
+        // The calls are an enum, as the rules want them: they are read from a trace, and told in the guarantee.
         match call {
             Call::Allocate { slot, size } => self.allocate(slot, size),
             Call::Free { slot } => self.free(slot),

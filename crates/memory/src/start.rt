@@ -8,7 +8,7 @@ ghost use Rattle.memory.specs.Of.{plain};
 use crate::memory::Memory;
 use capability::format::Format;
 use plain::types::{Slot, Sweep};
-use slots::slots::Slots;
+use slots::slots::{SLOTS, Slots};
 use std::marker::PhantomData;
 use store::Store;
 use stored_bytes::store_bytes::clear;
@@ -25,10 +25,7 @@ impl<'a, F: Format, S: Store> Memory<'a, F, S> {
         clear(store);
         Memory {
             slots: Slots {
-                cells: [Slot {
-                    word: 0,
-                    tag: false,
-                }; 16],
+                cells: [Slot::default(); SLOTS],
             },
             table: Table::new(),
             next: serial as u64,

@@ -1,5 +1,5 @@
 -- What an accepted call found, and where its new words and tags stand. Assumes nothing.
-use Rattle.std.proofs.Common.{◌≡◌, ℕ, zero, suc, ◌+◌, ◌*◌, ◌/◌, ◌%◌, ◌^◌, ◌<◌, ◌≤◌, min, max, Bool, true, false, cond, not, eqb, leb, ◌≢◌, ◌⊎◌, List, [], ◌∷◌, map, length, get_or, set, replicate, Some, None, Ok, Err, Option, Result, unwrap_or, sym, refl, ap, ◌∙◌, subst, inl, inr, ⊎_elim, arith}
+use Rattle.std.proofs.Common.{◌≡◌, ℕ, zero, suc, ◌+◌, ◌*◌, ◌/◌, ◌%◌, ◌^◌, ◌<◌, ◌≤◌, min, max, Bool, true, false, cond, not, eqb, leb, ◌≢◌, ◌⊎◌, List, [], ◌∷◌, map, length, get_or, set, replicate, Some, None, Ok, Option, Result, unwrap_or, sym, refl, ap, ◌∙◌, subst, inl, inr, ⊎_elim, arith}
 use lib.Bits.{bit_and}
 use Rattle.std.proofs.lemmas.List.{get_or-set_same, get_or-set_other, set_past, get_or_past, get_or-replicate, length-replicate}
 use Rattle.std.proofs.lemmas.Bool.{both_ways, and_parts, or_cases, not-true, leb-true, ltb-true, eqb-true, eq-eqb, cases_eq, cases_lt}
@@ -24,19 +24,13 @@ use Rattle.plain.specs.Memory.{Plain, usable, granule_of, slot, test, tagged_in,
 use Rattle.plain.specs.Guarantee.{in_use}
 use Rattle.plain.proofs.Leasts.{least_is}
 
-err_ok : {A : Type 0} (e : Refusal) (a : A) → ◌≡◌ {A = Result A Refusal} (Err e) (Ok a) → ⊥
-err_ok e a q = let z : ◌≡◌ {A = ℕ} 0 1 = cc in omega arith
-
-ok_ok : {A : Type 0} (a b : A) → ◌≡◌ {A = Result A Refusal} (Ok a) (Ok b) → a ≡ b
-ok_ok a b q = cc
-
 pub was_some : {A : Type 0} (o : Option A) (e : Refusal) (a : A) → ok_or o e ≡ Ok a → o ≡ Some a
-was_some None e a q = absurd (err_ok e a q)
-was_some (Some x) e a q = ap Some (ok_ok x a q)
+was_some None e a q = cc
+was_some (Some x) e a q = cc
 
 was_tested : {A : Type 0} (b : Bool) (e : Refusal) (r : Result A Refusal) (a : A) → test b e r ≡ Ok a → (b ≡ true) × (r ≡ Ok a)
 was_tested true e r a q = (refl, q)
-was_tested false e r a q = absurd (err_ok e a q)
+was_tested false e r a q = cc
 
 -- a value that a test chose
 pub chosen : {A : Type 0} (b : Bool) (v x y : A) → v ≡ cond b x y → ((b ≡ true) × (v ≡ x)) ⊎ ((b ≡ false) × (v ≡ y))
@@ -62,7 +56,8 @@ was_pointed s k i e =
     let p = was_tested (eqb (k.address % 8) 0) Misaligned _ i e in
     let q = was_tested (inside k k.address 8) OutOfBounds (Ok (granule_of s.first k.address)) i p.1 in
     let r = was_inside k k.address 8 q.0 in
-    (r.0, r.1, ok_ok _ _ q.1)
+    let e = q.1 in
+    (r.0, r.1, cc)
 
 pub was_covered : (s : Plain) (k : Capability) (n : ℕ) → covered s.first s.cells k n ≡ true → 0 < n → (k.base ≤ k.address) × (k.address + n ≤ k.top)
 was_covered s k n e l =
@@ -74,8 +69,8 @@ pub was_touched : (a n g : ℕ) → touched a n g ≡ true → (0 < n) × (8 * g
 was_touched a n g e = let l = ltb-true (max a (8 * g)) (min (a + n) (8 * g + 8)) e in (omega arith, omega arith)
 
 pub was_open : (w : Sweep) (n : ℕ) → cursor_of w ≡ Ok n → w ≡ Open n
-was_open Shut n e = absurd (err_ok _ n e)
-was_open (Open x) n e = ap Open (ok_ok x n e)
+was_open Shut n e = cc
+was_open (Open x) n e = cc
 
 -- where a new block stands
 pub was_room : (m : Meaning) (f : ℕ) (cells : List Cell) (bs : List Entry) (unit size x : ℕ) → ok_or (room m f cells bs unit size) NoRoom ≡ Ok x

@@ -1,11 +1,7 @@
 -- The laws of `least`. Assumes nothing.
 use Rattle.std.proofs.Common.{◌≡◌, ℕ, zero, suc, ◌+◌, ◌<◌, ◌≤◌, Bool, true, false, cond, Some, None, Option, sym, refl, ap, ◌∙◌, subst, ⊎_elim, arith}
-use Rattle.std.proofs.lemmas.Bool.{cases_eq, cond-true, cond-false, both_ways}
+use Rattle.std.proofs.lemmas.Bool.{false_from_ne_true, cases_eq, cond-true, cond-false, both_ways}
 use Rattle.plain.specs.Least.{least, IsLeast, first_of}
-
-fails : (b : Bool) → (b ≡ true → ⊥) → b ≡ false
-fails true h = absurd (h refl)
-fails false h = refl
 
 hit : (n a : ℕ) (test : ℕ → Bool) (x : ℕ) → a ≤ x → x < a + n → test x ≡ true → ((y : ℕ) → a ≤ y → y < x → test y ≡ true → ⊥)
     → first_of n a test ≡ Some x
@@ -14,14 +10,14 @@ hit (suc n) a test x lo hi t none =
     ⊎_elim
     (λ (e : a ≡ x). let P : ℕ → Type 0 = λ z. test z ≡ true in
     cond-true (test a) (Some a) (first_of n (suc a) test) (subst P (sym e) t) ∙ ap Some e)
-    (λ ne. cond-false (test a) (Some a) (first_of n (suc a) test) (fails (test a) (none a (omega arith) (omega arith)))
+    (λ ne. cond-false (test a) (Some a) (first_of n (suc a) test) (false_from_ne_true (test a) (none a (omega arith) (omega arith)))
     ∙ hit n (suc a) test x (omega arith) (omega arith) t (λ y l h. none y (omega arith) h))
     (cases_eq a x)
 
 miss : (n a : ℕ) (test : ℕ → Bool) → ((y : ℕ) → a ≤ y → y < a + n → test y ≡ true → ⊥) → first_of n a test ≡ None
 miss zero a test none = refl
 miss (suc n) a test none =
-    cond-false (test a) (Some a) (first_of n (suc a) test) (fails (test a) (none a (omega arith) (omega arith)))
+    cond-false (test a) (Some a) (first_of n (suc a) test) (false_from_ne_true (test a) (none a (omega arith) (omega arith)))
     ∙ miss n (suc a) test (λ y l h. none y (omega arith) (omega arith))
 
 -- what is the least is what `least` says

@@ -1,5 +1,5 @@
 -- The guarantee holds after every history. Assumes nothing.
-use Rattle.std.proofs.Common.{◌≡◌, ℕ, true, false, ◌⊎◌, List, [], ◌∷◌, Some, Option, sym, refl, ap, ◌∙◌, subst, inl, inr, ⊎_elim, arith}
+use Rattle.std.proofs.Common.{◌≡◌, ℕ, true, false, ◌⊎◌, List, [], ◌∷◌, Some, sym, refl, ap, ◌∙◌, subst, inl, inr, ⊎_elim, arith}
 use Rattle.std.proofs.lemmas.Bool.{ltb-true}
 use Rattle.capability.specs.declared.refusal.Refusal.TheVariants.{NotCarried}
 use Rattle.capability.specs.declared.types.Capability.{Capability}
@@ -21,9 +21,6 @@ use Rattle.plain.proofs.Slots.{next_refused, next_looks, next_derives, next_fetc
 use Rattle.plain.proofs.Granules.{next_stores, next_puts, next_copies, next_advances}
 use Rattle.plain.proofs.Turns.{usable_same, next_frees, next_opens, next_closes}
 use Rattle.plain.proofs.Allots.{next_allots}
-
-some_some : (a b : ℕ) → ◌≡◌ {A = Option ℕ} (Some a) (Some b) → a ≡ b
-some_some a b e = cc
 
 module _ (m : Meaning) (s : Plain) (laws : Lawful m) where
   -- one more call
@@ -74,7 +71,8 @@ module _ (m : Meaning) (s : Plain) (laws : Lawful m) where
     revoked : (n : ℕ) → ClosedAfter m s n h → (p : Place) → (at (after m s h) p).1 ≡ true → descent m s h p ≡ Some n → ⊥
     revoked n closed p z e =
         let d = g.places p z in
-        let is = some_some _ _ (sym d.descends ∙ e) in
+        let f = d.descends in
+        let is : d.owner.serial ≡ n = cc in
         (g.standing d.owner d.recorded).stands (subst (λ x. ClosedAfter m s x h) (sym is) closed)
 
     grows : (c : Call) (x : ℕ) (r : Right) → Reaches m s (c ∷ h) x r → Reaches m s h x r ⊎ ((n : ℕ) × (k : Capability) × Allocates m s n k h c × Covers k x)

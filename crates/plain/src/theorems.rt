@@ -5,22 +5,16 @@ ghost use Rattle.plain.specs.Least.{least, IsLeast};
 ghost use Rattle.plain.specs.Memory.{CountsUsable};
 
 /// `least` is below the bound, passes, and nothing lower passes; or nothing below the bound does.
-pub fn least_stands() -> u8
+pub fn least_stands()
     ensures { (n : ℕ) (test : ℕ → Bool) → IsLeast n test (least n test) }
-{
-    0
-}
+{}
 
 /// `usable` counts the granules of the store that end within the span.
-pub fn usable_stands() -> u8
+pub fn usable_stands()
     ensures { CountsUsable }
-{
-    0
-}
+{}
 
 /// The guarantee, for every format, store, first serial and list of calls.
-pub fn guarantee_stands() -> u8
+pub fn guarantee_stands()
     ensures { AlwaysSafe }
-{
-    0
-}
+{}

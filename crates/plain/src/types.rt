@@ -1,14 +1,15 @@
 //! The values of a memory, and its calls.
 
 /// A word and its tag. Only a tagged word is a capability.
-#[derive(Clone, Copy)]
+// The tag is no `Option` round the word: an untagged slot has a word too, which its program may read.
+#[derive(Clone, Copy, Debug, Default, PartialEq, Eq)]
 pub struct Slot {
     pub word: u64,
     pub tag: bool,
 }
 
 /// Where a block stands between its allocation and the sweep that takes it back.
-#[derive(Clone, Copy)]
+#[derive(Clone, Copy, Debug, PartialEq, Eq)]
 pub enum State {
     /// Allocated, and not freed yet.
     Live,
@@ -19,14 +20,16 @@ pub enum State {
 }
 
 /// Shut, or open with a cursor: how many granules have been passed.
-#[derive(Clone, Copy)]
+// An enum of its own and no `Option<u32>`: every definition of the sweep names its two states, and `None` and `Some`
+// would not say which of them is shut.
+#[derive(Clone, Copy, Debug, PartialEq, Eq)]
 pub enum Sweep {
     Shut,
     Open(u32),
 }
 
 /// What a program may ask of a memory. The numbers are any.
-#[derive(Clone, Copy)]
+#[derive(Clone, Copy, Debug, PartialEq, Eq)]
 pub enum Call {
     /// A new block, its capability into the slot. Answers the block's serial.
     Allocate {

@@ -2,91 +2,81 @@
 ghost use Rattle.std.specs.Prelude.{◌≡◌, ◌<◌};
 ghost use Rattle.plain.specs.Blocks.{lookup as place_of};
 ghost use Rattle.plain.specs.Memory.{slot_count, tagged_in, inside as lies_inside, usable as usable_count, is_width as width_allowed, place_condemned, word_condemned, spared as spared_tag, is_global, pointed as pointed_at};
-ghost use Rattle.table.specs.Recorded.{recorded};
 
+use crate::number::SlotNumber;
 use crate::slots::Slots;
 use capability::format::Format;
 use capability::refusal::Refusal;
 use capability::types::{Capability, Right};
 use store::Store;
-use table::states;
 use table::table::Table;
 
-/// How many slots there are.
-pub const SLOTS: u32 = 16;
-
-// The capability in a slot, which is to be used.
-pub fn tagged_in<F: Format>(slots: &Slots, a: u32) -> Result<Capability, Refusal>
-    requires { a < slot_count }
-    ensures { result ≡ tagged_in F.Format.meaning slots.now.cells a }
-{
-    let slot = slots.cells[a as usize];
-    if !slot.tag {
-        return Err(Refusal::Untagged);
+impl Slots {
+    /// The capability in a slot, which is to be used.
+    pub fn tagged<F: Format>(&self, number: SlotNumber) -> Result<Capability, Refusal>
+        ensures { result ≡ tagged_in F.Format.meaning self.now.cells number }
+    {
+        let slot = self.get(number);
+        if !slot.tag {
+            return Err(Refusal::Untagged);
+        }
+        F::read(slot.word)
     }
-    F::read(slot.word)
 }
 
-// Whether n bytes from x on are all inside the bounds.
+/// Whether n bytes from x on are all inside the bounds.
 pub fn inside(c: Capability, x: u32, n: u64) -> bool
     ensures { result ≡ lies_inside c x n }
 {
     c.base <= x && x as u128 + n as u128 <= c.top as u128
 }
 
-// Whether a load or a store may be so wide.
+/// Whether a load or a store may be so wide.
 pub fn is_width(n: u32) -> bool
     ensures is { result ≡ width_allowed n }
 {
-    n == 1 || n == 2 || n == 4 || n == 8
+    matches!(n, 1 | 2 | 4 | 8)
 }
 
-// How many granules are usable.
+/// How many granules are usable.
 pub fn usable<F: Format, S: Store>(store: &S) -> u32
     ensures is { result ≡ usable_count F.Format.meaning (S.Store.origin store.now) (S.Store.cells store.now) }
 {
-    let within = (F::limit() / 8).saturating_sub(store.first() as u64);
+    let within = (F::SPAN / 8).saturating_sub(store.first() as u64);
     within.min(store.count() as u64) as u32
 }
 
 // Whether the block that holds a capability's base is condemned.
 fn block_condemned(table: &Table, c: Capability) -> bool
-    ensures { result ≡ place_condemned (recorded table.now) (place_of (recorded table.now) c) }
+    ensures { result ≡ place_condemned table.now (place_of table.now c) }
 {
-    match table.lookup(c) {
-        Some(place) => states::condemned(table.at(place).state),
-        None => false,
-    }
+    table
+        .lookup(c)
+        .is_some_and(|place| table.at(place).is_condemned())
 }
 
-// Whether a word's block is condemned.
+/// Whether a word's block is condemned.
 pub fn condemned<F: Format>(table: &Table, word: u64) -> bool
-    ensures { result ≡ word_condemned F.Format.meaning (recorded table.now) word }
+    ensures { result ≡ word_condemned F.Format.meaning table.now word }
 {
-    match F::read(word) {
-        Ok(c) => block_condemned(table, c),
-        Err(_) => false,
-    }
+    F::read(word).is_ok_and(|c| block_condemned(table, c))
 }
 
-// A tag, but not that of a condemned block's word.
+/// A tag, but not that of a condemned block's word.
 pub fn spared<F: Format>(table: &Table, word: u64, tag: bool) -> bool
-    ensures { result ≡ spared_tag F.Format.meaning (recorded table.now) word tag }
+    ensures { result ≡ spared_tag F.Format.meaning table.now word tag }
 {
     tag && !condemned::<F>(table, word)
 }
 
-// Whether a word is a global capability.
+/// Whether a word is a global capability.
 pub fn global<F: Format>(word: u64) -> bool
     ensures { result ≡ is_global F.Format.meaning word }
 {
-    match F::read(word) {
-        Ok(c) => c.has(Right::Global),
-        Err(_) => false,
-    }
+    F::read(word).is_ok_and(|c| c.has(Right::Global))
 }
 
-// The granule at the address of a capability.
+/// The granule at the address of a capability.
 pub fn pointed<S: Store>(store: &S, c: Capability) -> Result<u32, Refusal>
     ensures { result ≡ pointed_at (S.Store.origin store.now) c }
 {

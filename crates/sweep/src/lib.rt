@@ -5,7 +5,6 @@ ghost use Rattle.std.specs.Prelude.{◌≡◌, ℕ, ◌<◌, ◌≤◌, List, ma
 ghost use Rattle.stored_bytes.specs.Bytes.{renewed};
 ghost use Rattle.store.specs.Cells.{Cell};
 ghost use Rattle.plain.specs.Memory.{Matches, cursor_of, cleaned, swept, call_open, call_advance, call_close};
-ghost use Rattle.table.specs.Recorded.{recorded};
 ghost use Rattle.slots.specs.Parts.{made_of};
 
 use capability::format::Format;
@@ -29,25 +28,21 @@ fn cursor_in(sweep: Sweep) -> Result<u32, Refusal>
 
 // Untags the slots of condemned blocks; they keep their words.
 fn clean<F: Format>(slots: &mut Slots, table: &Table)
-    ensures { slots.new.cells ≡ map (cleaned F.Format.meaning (recorded table.now)) slots.old.cells }
+    ensures { slots.new.cells ≡ map (cleaned F.Format.meaning table.now) slots.old.cells }
 {
-    for i in 0..16 {
-        let slot = slots.cells[i];
-        let tag = spared::<F>(table, slot.word, slot.tag);
-        slots.cells[i] = Slot {
-            word: slot.word,
-            tag,
-        };
+    for slot in &mut slots.cells {
+        slot.tag = spared::<F>(table, slot.word, slot.tag);
     }
 }
 
 // Untags the granules low to high - 1 of condemned blocks; they keep their words.
 fn pass<F: Format, S: Store>(store: &mut S, table: &Table, low: u32, high: u32)
     requires { low ≤ high }
-    ensures after { S.Store.cells store.new ≡ renewed (swept F.Format.meaning (recorded table.now) (S.Store.cells store.old)) (S.Store.cells store.old) low high }
+    ensures after { S.Store.cells store.new ≡ renewed (swept F.Format.meaning table.now (S.Store.cells store.old)) (S.Store.cells store.old) low high }
     ensures fixed { S.Store.origin store.new ≡ S.Store.origin store.old }
     ensures held { S.Store.kept store.new ≡ S.Store.kept store.old }
 {
+    // A granule is reached by its number: a store hands out no iterator over its granules.
     for i in low..high {
         let (word, old) = granule_at(store, i);
         if old {
@@ -63,9 +58,9 @@ pub fn open<F: Format>(
     table: &mut Table,
     sweep: &mut Sweep,
 ) -> Result<u64, Refusal>
-    ensures { (next first : ℕ) (cells : List Cell) → Matches (call_open F.Format.meaning (made_of slots.old.cells (recorded table.old) next sweep.old first cells)) result (made_of slots.new.cells (recorded table.new) next sweep.new first cells) }
+    ensures { (next first : ℕ) (cells : List Cell) → Matches (call_open F.Format.meaning (made_of slots.old.cells table.old next sweep.old first cells)) result (made_of slots.new.cells table.new next sweep.new first cells) }
 {
-    if let Sweep::Open(_) = *sweep {
+    if *sweep != Sweep::Shut {
         return Err(Refusal::SweepOpen);
     }
     let count = table.condemn();
@@ -81,7 +76,7 @@ pub fn advance<F: Format, S: Store>(
     store: &mut S,
     count: u32,
 ) -> Result<u64, Refusal>
-    ensures does { (slots : List Slot) (next : ℕ) → Matches (call_advance F.Format.meaning (made_of slots (recorded table.now) next sweep.old (S.Store.origin store.old) (S.Store.cells store.old)) count) result (made_of slots (recorded table.now) next sweep.new (S.Store.origin store.new) (S.Store.cells store.new)) }
+    ensures does { (slots : List Slot) (next : ℕ) → Matches (call_advance F.Format.meaning (made_of slots table.now next sweep.old (S.Store.origin store.old) (S.Store.cells store.old)) count) result (made_of slots table.now next sweep.new (S.Store.origin store.new) (S.Store.cells store.new)) }
     ensures held { S.Store.kept store.new ≡ S.Store.kept store.old }
 {
     let cursor = cursor_in(*sweep)?;
@@ -99,7 +94,7 @@ pub fn close<F: Format, S: Store>(
     sweep: &mut Sweep,
     store: &S,
 ) -> Result<u64, Refusal>
-    ensures { (slots : List Slot) (next : ℕ) → Matches (call_close F.Format.meaning (made_of slots (recorded table.old) next sweep.old (S.Store.origin store.now) (S.Store.cells store.now))) result (made_of slots (recorded table.new) next sweep.new (S.Store.origin store.now) (S.Store.cells store.now)) }
+    ensures { (slots : List Slot) (next : ℕ) → Matches (call_close F.Format.meaning (made_of slots table.old next sweep.old (S.Store.origin store.now) (S.Store.cells store.now))) result (made_of slots table.new next sweep.new (S.Store.origin store.now) (S.Store.cells store.now)) }
 {
     let cursor = cursor_in(*sweep)?;
     if cursor < usable::<F, S>(store) {

@@ -1,7 +1,9 @@
-use Rattle.std.proofs.Common.{◌≡◌, ◌++◌, map, take, drop}
+use Rattle.std.proofs.Common.{◌≡◌, ◌++◌, length, map, take, drop}
 use Rattle.plain.specs.Memory.{cleaned}
-use Rattle.table.specs.Recorded.{recorded}
 use Rattle.sweep.proofs.clean.Given as goal
 
-abbrev pub invariant-loop-i : goal.invariant-loop-i
-invariant-loop-i g l = l.slots.cells ≡ map (cleaned g.F.Format.meaning (recorded l.table)) (take l.i l.initial.slots.cells) ++ drop l.i l.initial.slots.cells
+abbrev pub invariant-loop-slot : goal.invariant-loop-slot
+invariant-loop-slot g l = record {
+  sized : length l.slot-items ≡ 16;
+  cleaned : l.slot-items ≡ map (cleaned g.F.Format.meaning l.table) (take l.slot-index l.fn.slots.cells) ++ drop l.slot-index l.fn.slots.cells;
+}

@@ -1,16 +1,14 @@
-use Rattle.std.proofs.Common.{◌≡◌, Bool, false, not, ◌&&◌, List, set, sym, refl, ap, ◌∙◌, arith}
+use Rattle.std.proofs.Common.{◌≡◌, Bool, false, not, ◌&&◌, List, set, sym, refl, ap, ◌∙◌}
 use Rattle.store.specs.Cells.{Cell, cell}
-use Rattle.stored_bytes.specs.Bytes.{renewed}
 use Rattle.stored_bytes.proofs.Renewed.{renewed_none, renewed_here, renewed_more, renewed_same}
 use Rattle.plain.specs.Blocks.{Entry}
 use Rattle.plain.specs.Memory.{swept, spared, word_condemned}
 use Rattle.capability.specs.Formats.{Meaning}
-use Rattle.table.specs.Recorded.{recorded}
 use Rattle.sweep.proofs.pass.Goals as goal
 use Rattle.sweep.proofs.pass.Goals.{then-old, else-old}
 
 pub loop-i-init : goal.loop-i-init
-loop-i-init g c = (renewed_none (swept g.F.Format.meaning (recorded c.args.table.now) (g.S.Store.cells c.args.store.now)) (g.S.Store.cells c.args.store.now) c.args.low, refl, refl)
+loop-i-init g c = (renewed_none (swept g.F.Format.meaning c.args.table.now (g.S.Store.cells c.args.store.now)) (g.S.Store.cells c.args.store.now) c.args.low, refl, refl)
 
 -- a granule that was untagged stays as it is
 untagged : (m : Meaning) (bs : List Entry) (v : Cell) → v.1 ≡ false → ◌≡◌ {A = Cell} (v.0, spared m bs v.0 v.1) v
@@ -23,7 +21,7 @@ read m bs v w t e f = ap (λ (x : Bool). (v.0, x)) f ∙ ap (λ (x : Cell). (x.0
 pub loop-i-preserved : goal.loop-i-preserved
 loop-i-preserved g c =
     let m = g.F.Format.meaning in
-    let bs = recorded c.args.table.now in
+    let bs = c.args.table.now in
     let cells = g.S.Store.cells c.args.store.now in
     let i = c.loop-i.i in
     let low = c.args.low in
@@ -46,13 +44,3 @@ loop-i-preserved g c =
         c.loop-i.invariant.2,
       )
     ]
-
-pub returns : goal.returns
-returns g c =
-    let cells = g.S.Store.cells c.args.store.now in
-    let e : c.loop-i.i ≡ c.args.high = omega (arith, c.loop-i.auto.i-end c.requires) in
-    record {
-      after = c.loop-i.invariant.0 ∙ ap (renewed (swept g.F.Format.meaning (recorded c.args.table.now) cells) cells c.args.low) e;
-      fixed = c.loop-i.invariant.1;
-      held = c.loop-i.invariant.2;
-    }

@@ -5,8 +5,8 @@ use Rattle.table.proofs.room.next_multiple.Goals as goal
 pub returns : goal.returns
 returns c = record {
   is = refl;
-  past = multiple_past c.args.x c.args.unit c.requires.0;
-  near = multiple_near c.args.x c.args.unit c.requires.0;
-  even = multiple_even _ c.args.unit c.requires.0;
-  first = λ y e l. multiple_first c.args.x c.args.unit y c.requires.0 e l;
+  past = multiple_past c.args.x c.args.unit c.requires.unit_given;
+  near = multiple_near c.args.x c.args.unit c.requires.unit_given;
+  even = multiple_even _ c.args.unit c.requires.unit_given;
+  first = λ y e l. multiple_first c.args.x c.args.unit y c.requires.unit_given e l;
 }
