@@ -1,50 +1,30 @@
 //! Answers many traces: each follows a title line that begins with `#`.
 #![tactic(auto)]
 
-ghost use Rattle.std.specs.Prelude.{◌<◌, ◌≤◌, length};
+ghost use Rattle.std.specs.Prelude.{◌≤◌, length};
 
 use std::io;
 use std::io::{Read, Write};
 use trace::transcript::transcript;
 
-/// Where the next title line begins, or the end.
-fn next_title(input: &[u8], from: usize) -> usize
-    requires { from ≤ length input.now }
-    ensures low { from ≤ result }
-    ensures high { result ≤ length input.now }
+/// Where the first line ends.
+fn line_end(case: &[u8]) -> usize
+    ensures { result ≤ length case.now }
 {
-    for i in from..input.len() {
-        if input[i] == b'#' && (i == 0 || input[i - 1] == b'\n') {
-            return i;
-        }
-    }
-    input.len()
-}
-
-/// Where the line ends that begins here.
-fn line_end(input: &[u8], from: usize) -> usize
-    requires { from < length input.now }
-    ensures low { from < result }
-    ensures high { result ≤ length input.now }
-{
-    for i in from..input.len() {
-        if input[i] == b'\n' {
-            return i + 1;
-        }
-    }
-    input.len()
+    case.iter()
+        .position(|byte| *byte == b'\n')
+        .map_or(case.len(), |end| end + 1)
 }
 
 /// Writes each title and the transcript of the bytes after it.
 fn answer_all(rt: &HostRuntime, input: &[u8]) -> io::Result<()> {
-    let mut title = next_title(input, 0);
-    while title < input.len() {
-        let start = line_end(input, title);
-        let end = next_title(input, start);
-        rt.stdout().write_all(&input[title..start])?;
-        let out = transcript(rt.alloc(), &input[start..end])?;
-        rt.stdout().write_all(out.as_slice())?;
-        title = end;
+    for case in input.chunk_by(|before, byte| *before != b'\n' || *byte != b'#') {
+        if case.starts_with(b"#") {
+            let (title, trace) = case.split_at(line_end(case));
+            rt.stdout().write_all(title)?;
+            let out = transcript(rt.alloc(), trace)?;
+            rt.stdout().write_all(out.as_slice())?;
+        }
     }
     Ok(())
 }

@@ -1,8 +1,8 @@
 -- The checks of a line's fields.
-use Rattle.std.specs.Prelude.{ℕ, ◌<◌, ◌≤◌, Bool, true, false, cond, not, ◌&&◌, List, length, is_some, Some, None, Ok, Err, Option, Result, nat_lt}
+use Rattle.std.specs.Prelude.{◌≡◌, ℕ, ◌<◌, ◌≤◌, Bool, true, false, cond, not, ◌&&◌, ◌||◌, List, length, is_some, Some, None, Ok, Err, Option, Result, nat_lt}
 use Rattle.std.specs.Option.{ok_or}
 use Rattle.capability.specs.declared.refusal.Refusal.{Refusal}
-use Rattle.capability.specs.declared.refusal.Refusal.TheVariants.{LineLength, FieldForm, NumberTooLarge, FieldMissing, FieldUnneeded}
+use Rattle.capability.specs.declared.refusal.Refusal.TheVariants.{LineLength, FieldForm, NumberTooLarge, NotListed, FieldMissing, FieldUnneeded}
 use Rattle.text.specs.Fields.{fields_of}
 use Rattle.text.specs.declared.fields.Field.{Field}
 use Rattle.text.specs.declared.fields.Field.TheVariants.{Blank, Number, Malformed}
@@ -55,6 +55,18 @@ at_column e (Some column) = Err (record { refusal = e; answer = column })
 abbrev pub check : Marks → Refusal → Result (Unit {0}) Fault
 check m e = at_column e (leftmost m)
 
+-- the fields that are among either
+abbrev pub either : Marks → Marks → Marks
+either x y = record { code = x.code || y.code; a = x.a || y.a; b = x.b || y.b; p = x.p || y.p; q = x.q || y.q }
+
+-- the fields that are among both
+abbrev pub both : Marks → Marks → Marks
+both x y = record { code = x.code && y.code; a = x.a && y.a; b = x.b && y.b; p = x.p && y.p; q = x.q && y.q }
+
+-- the other fields
+abbrev pub others : Marks → Marks
+others x = record { code = not x.code; a = not x.a; b = not x.b; p = not x.p; q = not x.q }
+
 -- the fields that are neither blank nor a number
 abbrev pub all_malformed : Fields → Marks
 all_malformed f = record {
@@ -104,6 +116,17 @@ picked listed Malformed = None
 -- a field is filled, and what it holds is not listed
 abbrev pub unlisted : {A : Type 0} → (ℕ → Option A) → Field → Bool
 unlisted listed f = not (blank f) && not (is_some (picked listed f))
+
+-- what a conversion found for the number in a field that begins at some column, or its refusal with that column
+abbrev pub at_field : {A : Type 0} → ℕ → Result A Refusal → Result (Option A) Fault
+at_field column (Ok a) = Ok (Some a)
+at_field column (Err e) = Err (record { refusal = e; answer = column })
+
+-- a blank field names nothing, a number what a conversion may give for it, and any other field is refused
+abbrev pub Names : {A : Type 0} → (ℕ → Result A Refusal → Type 0) → ℕ → Field → Result (Option A) Fault → Type 0
+Names gives column Blank r = r ≡ Ok None
+Names {A} gives column (Number n) r = (t : Result A Refusal) × gives n t × (r ≡ at_field column t)
+Names gives column Malformed r = r ≡ Err (record { refusal = NotListed; answer = column })
 
 -- the needed fields are filled, and then no other is
 abbrev pub required : Marks → Fields → Result (Unit {0}) Fault

@@ -1,14 +1,16 @@
 //! The codes of calls.
 ghost use Rattle.std.specs.Prelude.{◌≡◌, true};
-ghost use Rattle.lines.specs.Checks.{picked};
+ghost use Rattle.std.specs.Option.{ok_or};
+ghost use Rattle.capability.specs.declared.refusal.Refusal.TheVariants.{NotListed};
 ghost use Rattle.lines.specs.Codes.{row, code_of};
 
 use crate::checks::Marks;
+use capability::refusal::Refusal;
 use plain::types::Call;
-use text::fields::Field;
 
 /// The calls that a line can ask for.
-#[derive(Clone, Copy)]
+// Beside `Call`, whose cases hold numbers, since a code is read and its fields are checked before there are numbers.
+#[derive(Clone, Copy, PartialEq, Eq, Debug)]
 pub(crate) enum Code {
     Allocate,
     Free,
@@ -27,67 +29,56 @@ pub(crate) enum Code {
     Tally,
 }
 
-/// The code, and some of the other fields.
-fn needing(a: bool, b: bool, p: bool, q: bool) -> Marks
-    ensures { result ≡ record { code = true; a = a; b = b; p = p; q = q } }
-{
-    Marks {
-        code: true,
-        a,
-        b,
-        p,
-        q,
+/// The code of a number.
+impl TryFrom<u128> for Code {
+    type Error = Refusal;
+
+    ghost try_from_gives = { λ number result. result ≡ ok_or (code_of number) NotListed };
+
+    fn try_from(number: u128) -> Result<Code, Refusal> {
+        match number {
+            1 => Ok(Code::Allocate),
+            2 => Ok(Code::Free),
+            3 => Ok(Code::Move),
+            4 => Ok(Code::Narrow),
+            5 => Ok(Code::Restrict),
+            6 => Ok(Code::Load),
+            7 => Ok(Code::Store),
+            8 => Ok(Code::Fetch),
+            9 => Ok(Code::Put),
+            10 => Ok(Code::Copy),
+            11 => Ok(Code::Open),
+            12 => Ok(Code::Advance),
+            13 => Ok(Code::Close),
+            14 => Ok(Code::Whose),
+            15 => Ok(Code::Tally),
+            _ => Err(Refusal::NotListed),
+        }
     }
 }
 
 impl Code {
-    /// The code in a field, if it is filled and listed.
-    pub(crate) fn read(field: Field) -> Option<Code>
-        ensures { result ≡ picked code_of field }
-    {
-        let Field::Number(number) = field else {
-            return None;
-        };
-        match number {
-            1 => Some(Code::Allocate),
-            2 => Some(Code::Free),
-            3 => Some(Code::Move),
-            4 => Some(Code::Narrow),
-            5 => Some(Code::Restrict),
-            6 => Some(Code::Load),
-            7 => Some(Code::Store),
-            8 => Some(Code::Fetch),
-            9 => Some(Code::Put),
-            10 => Some(Code::Copy),
-            11 => Some(Code::Open),
-            12 => Some(Code::Advance),
-            13 => Some(Code::Close),
-            14 => Some(Code::Whose),
-            15 => Some(Code::Tally),
-            _ => None,
-        }
-    }
-
     /// The fields that the call needs.
+    // A row for each code here and below, as in the definition: a table of functions would have to be told by its places.
     pub(crate) fn needs(self) -> Marks
         ensures { result ≡ (row self).needs }
     {
         match self {
-            Code::Allocate => needing(true, false, true, false),
-            Code::Free => needing(true, false, false, false),
-            Code::Move => needing(true, true, true, false),
-            Code::Narrow => needing(true, true, true, true),
-            Code::Restrict => needing(true, true, true, false),
-            Code::Load => needing(true, false, true, false),
-            Code::Store => needing(true, false, true, true),
-            Code::Fetch => needing(true, true, false, false),
-            Code::Put => needing(true, true, false, false),
-            Code::Copy => needing(true, true, true, false),
-            Code::Open => needing(false, false, false, false),
-            Code::Advance => needing(false, false, true, false),
-            Code::Close => needing(false, false, false, false),
-            Code::Whose => needing(true, false, false, false),
-            Code::Tally => needing(false, false, false, false),
+            Code::Allocate => Marks::CODE | Marks::A | Marks::P,
+            Code::Free => Marks::CODE | Marks::A,
+            Code::Move => Marks::CODE | Marks::A | Marks::B | Marks::P,
+            Code::Narrow => Marks::CODE | Marks::A | Marks::B | Marks::P | Marks::Q,
+            Code::Restrict => Marks::CODE | Marks::A | Marks::B | Marks::P,
+            Code::Load => Marks::CODE | Marks::A | Marks::P,
+            Code::Store => Marks::CODE | Marks::A | Marks::P | Marks::Q,
+            Code::Fetch => Marks::CODE | Marks::A | Marks::B,
+            Code::Put => Marks::CODE | Marks::A | Marks::B,
+            Code::Copy => Marks::CODE | Marks::A | Marks::B | Marks::P,
+            Code::Open => Marks::CODE,
+            Code::Advance => Marks::CODE | Marks::P,
+            Code::Close => Marks::CODE,
+            Code::Whose => Marks::CODE | Marks::A,
+            Code::Tally => Marks::CODE,
         }
     }
 

@@ -1,29 +1,30 @@
 //! What the first line says.
 ghost use Rattle.std.specs.Prelude.{◌≡◌, ◌≤◌, IfOk};
-ghost use Rattle.lines.specs.Checks.{picked};
+ghost use Rattle.std.specs.Option.{ok_or};
+ghost use Rattle.capability.specs.declared.refusal.Refusal.TheVariants.{NotListed};
 ghost use Rattle.lines.specs.Headings.{format_of, store_of, kinds_in, heading_in};
 
-use crate::checks::{Limits, Marks, is_blank, read_fields, value};
+use crate::checks::{A, CODE, Limits, Marks, listed, needed, read_fields, value};
 use crate::fault::Fault;
 use capability::refusal::Refusal;
-use text::fields::{Field, Fields};
+use text::fields::Fields;
 
 /// The formats.
-#[derive(Clone, Copy)]
+#[derive(Clone, Copy, PartialEq, Eq, Debug)]
 pub enum FormatKind {
     Compact,
     Exact,
 }
 
 /// The stores.
-#[derive(Clone, Copy)]
+#[derive(Clone, Copy, PartialEq, Eq, Debug)]
 pub enum StoreKind {
     Flat,
     Words,
 }
 
 /// What a trace runs on.
-#[derive(Clone, Copy)]
+#[derive(Clone, Copy, PartialEq, Eq, Debug)]
 pub struct Heading {
     pub format: FormatKind,
     pub store: StoreKind,
@@ -39,37 +40,32 @@ const LIMITS: Limits = Limits {
     q: u32::MAX as u64,
 };
 
-/// Every field but b.
-const NEEDED: Marks = Marks {
-    code: true,
-    a: true,
-    b: false,
-    p: true,
-    q: true,
-};
+/// The format of a number.
+impl TryFrom<u128> for FormatKind {
+    type Error = Refusal;
 
-impl FormatKind {
-    /// The format in a field, if it is filled and listed.
-    fn read(field: Field) -> Option<FormatKind>
-        ensures { result ≡ picked format_of field }
-    {
-        match field {
-            Field::Number(1) => Some(FormatKind::Compact),
-            Field::Number(2) => Some(FormatKind::Exact),
-            _ => None,
+    ghost try_from_gives = { λ number result. result ≡ ok_or (format_of number) NotListed };
+
+    fn try_from(number: u128) -> Result<FormatKind, Refusal> {
+        match number {
+            1 => Ok(FormatKind::Compact),
+            2 => Ok(FormatKind::Exact),
+            _ => Err(Refusal::NotListed),
         }
     }
 }
 
-impl StoreKind {
-    /// The store in a field, if it is filled and listed.
-    fn read(field: Field) -> Option<StoreKind>
-        ensures { result ≡ picked store_of field }
-    {
-        match field {
-            Field::Number(1) => Some(StoreKind::Flat),
-            Field::Number(2) => Some(StoreKind::Words),
-            _ => None,
+/// The store of a number.
+impl TryFrom<u128> for StoreKind {
+    type Error = Refusal;
+
+    ghost try_from_gives = { λ number result. result ≡ ok_or (store_of number) NotListed };
+
+    fn try_from(number: u128) -> Result<StoreKind, Refusal> {
+        match number {
+            1 => Ok(StoreKind::Flat),
+            2 => Ok(StoreKind::Words),
+            _ => Err(Refusal::NotListed),
         }
     }
 }
@@ -78,31 +74,22 @@ impl StoreKind {
 fn read_kinds(fields: Fields) -> Result<(FormatKind, StoreKind), Fault>
     ensures { result ≡ kinds_in fields }
 {
-    let format = FormatKind::read(fields.code);
-    let store = StoreKind::read(fields.a);
-    let unlisted = Marks {
-        code: !is_blank(fields.code) && format.is_none(),
-        a: !is_blank(fields.a) && store.is_none(),
-        b: false,
-        p: false,
-        q: false,
-    };
-    unlisted.refuse(Refusal::NotListed)?;
-    let refusal = Refusal::FieldMissing;
-    let format = format.ok_or(Fault { refusal, answer: 1 })?;
-    let store = store.ok_or(Fault { refusal, answer: 3 })?;
-    Ok((format, store))
+    let format = listed(fields.code, CODE)?;
+    let store = listed(fields.a, A)?;
+    Ok((needed(format, CODE)?, needed(store, A)?))
 }
 
 impl Heading {
     /// Reads the first line.
+    // By a name that says so: a `TryFrom` of bytes would hide that they are one line.
     pub fn read(line: &[u8]) -> Result<Heading, Fault>
         ensures value { result ≡ heading_in line.now }
         ensures few { IfOk result (λ h. h.granules ≤ 8192) }
     {
         let fields = read_fields(line, LIMITS)?;
         let (format, store) = read_kinds(fields)?;
-        NEEDED.require(fields)?;
+        // Every field but b is needed.
+        (!Marks::B).require(fields)?;
         Ok(Heading {
             format,
             store,

@@ -2,7 +2,7 @@
 ghost use Rattle.std.specs.Prelude.{◌≡◌};
 ghost use Rattle.lines.specs.Calls.{code_in, call_in, starred, said, saying};
 
-use crate::checks::{Limits, Marks, is_blank, read_fields, value};
+use crate::checks::{CODE, Limits, listed, needed, read_fields, value};
 use crate::codes::Code;
 use crate::fault::Fault;
 use capability::refusal::Refusal;
@@ -10,7 +10,8 @@ use plain::types::Call;
 use text::fields::Fields;
 
 /// What a line says that is not the first.
-#[derive(Clone, Copy)]
+// Three kinds of lines, as the rules tell them apart. A remark is no answer that could stand in a result beside a fault.
+#[derive(Clone, Copy, PartialEq, Eq, Debug)]
 pub enum Line<'a> {
     /// It begins with `*`: these are its bytes, a part of the input.
     Remark(&'a [u8]),
@@ -30,19 +31,7 @@ const LIMITS: Limits = Limits {
 fn read_code(fields: Fields) -> Result<Code, Fault>
     ensures { result ≡ code_in fields }
 {
-    let code = Code::read(fields.code);
-    let unlisted = Marks {
-        code: !is_blank(fields.code) && code.is_none(),
-        a: false,
-        b: false,
-        p: false,
-        q: false,
-    };
-    unlisted.refuse(Refusal::NotListed)?;
-    code.ok_or(Fault {
-        refusal: Refusal::FieldMissing,
-        answer: 1,
-    })
+    needed(listed(fields.code, CODE)?, CODE)
 }
 
 /// The call that a line asks for.
@@ -67,6 +56,7 @@ fn is_starred(line: &[u8]) -> bool
 
 impl<'a> Line<'a> {
     /// Reads a line that is not the first.
+    // By a name that says so: a `From` of bytes would hide that they are one line.
     pub fn read(line: &'a [u8]) -> Line<'a>
         ensures { said result ≡ saying line.now }
     {

@@ -1,8 +1,15 @@
 -- How the lines of an input come one after the other.
-use Rattle.std.proofs.Common.{◌≡◌, ℕ, zero, suc, ◌+◌, ◌-◌, ◌<◌, ◌≤◌, Bool, true, false, cond, not, eqb, List, [], ◌∷◌, length, take, drop, refl, ap, ◌∙◌, one-add, arith}
-use Rattle.std.proofs.lemmas.List.{at_drop_all, drop-drop, length-drop}
+use Rattle.std.proofs.Common.{◌≡◌, ℕ, zero, suc, ◌+◌, ◌-◌, ◌<◌, ◌≤◌, Bool, true, false, cond, not, eqb, ◌==◌, List, [], ◌∷◌, length, take, drop, Some, rules, refl, ap, ◌∙◌, one-add, arith}
+use Rattle.std.proofs.lemmas.List.{drop-drop, length-drop}
+use Rattle.std.proofs.lemmas.List.Sums.{prefix_len-le-length}
 use Rattle.std.proofs.lemmas.Bool.{cond-false, cond_both, ne_eqb}
-use Rattle.text.specs.Lines.{onto, pieces, lines, to_come, line_length}
+use Rattle.std.proofs.lemmas.Bool.Decides.{nat_tests}
+use Rattle.std.specs.List.{position}
+use Rattle.std.specs.Option.{unwrap_or}
+use Rattle.std.specs.Iterator.{MakesProgress, item_count}
+use Rattle.std.specs.Borrow.{Bor}
+use Rattle.text.specs.declared.reader.Reader.{Reader}
+use Rattle.text.specs.Lines.{onto, pieces, lines, to_come, coming, line_length}
 
 -- pieces begin with the first line, and go on behind its end
 split_at : (c : ℕ) (cs : List ℕ) (b : Bool) →
@@ -35,19 +42,26 @@ to_come_split xs (suc p) h =
     to_come_past xs (suc p) (omega arith)
     ∙ pieces_split (drop (suc p) xs) (simp length-drop (omega (arith, h (omega arith))))
 
--- at the end no line is to come
-pub to_come_end : (xs : List ℕ) (p : ℕ) → 0 < p → length xs ≤ p → to_come xs p ≡ []
-to_come_end xs p h l = to_come_past xs p h ∙ at_drop_all pieces xs p l
-
--- before it the next one goes from the place p to its end e, and the others come from e + 1 on
-pub to_come_next : (xs : List ℕ) (p e : ℕ) → (0 < p → p < length xs) → e ≡ p + line_length (drop p xs) →
-    to_come xs p ≡ take (e - p) (drop p xs) ∷ to_come xs (e + 1)
-to_come_next xs p e h is =
-    let a : line_length (drop p xs) ≡ e - p = omega arith in
-    let b : drop (suc (line_length (drop p xs))) (drop p xs) ≡ drop (e + 1) xs =
-    drop-drop (suc (line_length (drop p xs))) p xs ∙ ap (λ n. drop n xs) (omega arith) in
-    let d : to_come xs (e + 1) ≡ pieces (drop (e + 1) xs) = to_come_past xs (e + 1) (omega arith) in
+-- the next line has the n bytes from the place p on, and the others come from behind its end
+pub to_come_next : (xs : List ℕ) (p n : ℕ) → (0 < p → p < length xs) → n ≡ line_length (drop p xs) →
+    to_come xs p ≡ take (p + n - p) (drop p xs) ∷ to_come xs (p + n + 1)
+to_come_next xs p n h is =
+    let a : line_length (drop p xs) ≡ p + n - p = omega arith in
+    let b : drop (suc (line_length (drop p xs))) (drop p xs) ≡ drop (p + n + 1) xs =
+    drop-drop (suc (line_length (drop p xs))) p xs ∙ ap (λ k. drop k xs) (omega arith) in
+    let d : to_come xs (p + n + 1) ≡ pieces (drop (p + n + 1) xs) = to_come_past xs (p + n + 1) (omega arith) in
     to_come_split xs p h ∙ cc (a, b, d)
+
+-- the place of the first byte 10, or else the end, is the length of the first line
+pub first_length : (xs : List ℕ) (n : ℕ) → n ≡ unwrap_or (position (λ b. b == 10) xs) (length xs) → n ≡ line_length xs
+first_length xs n is =
+    let h = prefix_len-le-length (λ b. not (b == 10)) xs in
+    is ∙ grind (arith, nat_tests, h)
+
+-- a line that is handed out is one less to come
+pub less_to_come : (r t : Reader) (l : Bor (List ℕ)) → coming r ≡ l.now ∷ coming t →
+    MakesProgress (λ (s : Reader). Unit {0}) (item_count coming) r (Some l) t
+less_to_come r t l is = search (rules, ap (length {A = List ℕ}) is)
 
 length_onto : (c : ℕ) (ls : List (List ℕ)) → length (onto c ls) ≤ length ls + 1
 length_onto c [] = omega arith
@@ -63,7 +77,3 @@ length_pieces (c ∷ cs) =
 pub length_lines : (xs : List ℕ) → length (lines xs) ≤ length xs + 1
 length_lines [] = omega arith
 length_lines (c ∷ cs) = omega (arith, length_pieces (c ∷ cs))
-
--- and at least one
-pub some_line : (xs : List ℕ) → 0 < length (lines xs)
-some_line xs = omega (arith, ap length (lines_split xs))

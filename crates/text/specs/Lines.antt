@@ -1,5 +1,7 @@
 -- The lines of an input.
-use Rattle.std.specs.Prelude.{ℕ, cond, not, List, [], ◌∷◌, drop, ◌==◌}
+use Rattle.std.specs.Prelude.{◌≡◌, ℕ, cond, not, List, [], ◌∷◌, drop, Option, ◌==◌}
+use Rattle.std.specs.Borrow.{Bor}
+use Rattle.std.specs.Iterator.{YieldsFirstRef}
 use Rattle.std.specs.List.{prefix_len}
 use Rattle.text.specs.declared.reader.Reader.{Reader}
 
@@ -26,6 +28,10 @@ to_come input place = cond (place == 0) (lines input) (pieces (drop place input)
 -- the lines that a reader has still to hand out
 abbrev pub coming : Reader → List (List ℕ)
 coming r = to_come r.input.now r.place
+
+-- the first line that is still to come is handed out, or there is none, and the input stays as it was
+abbrev pub HandsOut : Reader → Option (Bor (List ℕ)) → Reader → Type 0
+HandsOut before line after = YieldsFirstRef coming before line after × (after.input.now ≡ before.input.now)
 
 -- the length of the first line: the bytes before the first byte 10, or all where there is none
 abbrev pub line_length : List ℕ → ℕ

@@ -1,52 +1,82 @@
 //! The lines that are written.
-ghost use Rattle.std.specs.Prelude.{◌≡◌, ◌^◌, ◌<◌, ◌++◌, length, decimal, MatchResult};
-ghost use Rattle.text.specs.Answers.{right, answer_line, remark_line};
+ghost use Rattle.std.specs.Prelude.{◌≡◌, ℕ, ◌+◌, ◌<◌, ◌++◌, MatchResult};
+ghost use Rattle.text.specs.Answers.{answer_line, remark_line};
 
+use itoa::write_digits;
 use std::alloc::AllocError;
+use std::marker::Model;
 
-/// Writes `n` at the right end of a column, with blanks in front.
-fn put_number(column: &mut [u8], n: u64)
-    requires { (0 < length column.old) × (n < 10 ^ length column.old) }
-    ensures { column.new ≡ right (length column.old) (decimal n) }
-{
-    let mut i = column.len() - 1;
-    column[i] = b'0' + (n % 10) as u8;
-    let mut rest = n / 10;
-    while rest > 0 {
-        i -= 1;
-        column[i] = b'0' + (rest % 10) as u8;
-        rest /= 10;
-    }
-    column[0..i].fill(b' ');
+/// The number of a line, which has six digits at most. Lines count from 1, and number 0 stands for
+/// an input as a whole.
+#[derive(Clone, Copy, PartialEq, Eq, Debug)]
+pub struct LineNumber {
+    number: u32,
 }
 
-/// Writes an answer line into 31 bytes.
-fn put_answer(line: &mut [u8], number: u32, refusal: u8, answer: u64)
-    requires { (length line.old ≡ 31) × (number < 1000000) }
-    ensures { line.new ≡ answer_line number refusal answer }
+impl Model for LineNumber {
+    ghost Value = { ℕ };
+
+    ghost view = { λ n. n.number };
+
+    ghost invariant = { λ n. n.number < 1000000 };
+
+    ghost inverse = { λ n. record { number = n } };
+}
+
+impl LineNumber {
+    /// Number 0.
+    pub const WHOLE: LineNumber = LineNumber { number: 0 };
+
+    /// Number 1.
+    pub const HEADING: LineNumber = LineNumber { number: 1 };
+
+    /// A number, as one of a line.
+    pub fn new(number: u32) -> LineNumber
+        requires { number < 1000000 }
+        ensures { result ≡ number }
+    {
+        LineNumber { number }
+    }
+
+    /// The number of the line after it.
+    pub fn next(self) -> LineNumber
+        requires { self < 999999 }
+        ensures { result ≡ self + 1 }
+    {
+        LineNumber {
+            number: self.number + 1,
+        }
+    }
+}
+
+/// The bytes of an answer line.
+// The digits are written in place, since `write!` with widths misses the speed: a line takes 700
+// instructions with it, where this takes 130, and a trace takes 1,400 to 1,900 in all for each line.
+fn answer_line(number: LineNumber, refusal: u8, answer: u64) -> [u8; 31]
+    ensures { result ≡ answer_line number refusal answer }
 {
-    put_number(&mut line[0..6], u64::from(number));
-    put_number(&mut line[6..9], u64::from(refusal));
-    put_number(&mut line[9..30], answer);
+    let mut line = [b' '; 31];
+    write_digits(u64::from(number.number), &mut line, 6);
+    write_digits(u64::from(refusal), &mut line, 9);
+    write_digits(answer, &mut line, 30);
     line[30] = b'\n';
+    line
 }
 
 /// Appends an answer line: the line's number, the refusal or 0, and the answer. Where memory is
 /// wanting, nothing is appended.
+// A refusal is a number here: these are the bytes of a line, where any number is written as it is.
 pub fn push_answer(
     out: &mut Vec<u8>,
-    number: u32,
+    number: LineNumber,
     refusal: u8,
     answer: u64,
 ) -> Result<(), AllocError>
-    requires { number < 1000000 }
     ensures { MatchResult result
         (λ _. out.new.items ≡ out.old.items ++ answer_line number refusal answer)
         (λ _. out.new.items ≡ out.old.items) }
 {
-    let mut line = [0u8; 31];
-    put_answer(&mut line, number, refusal, answer);
-    out.extend_from_slice(&line)
+    out.extend_from_slice(&answer_line(number, refusal, answer))
 }
 
 /// Appends a remark and its line end. Where memory is wanting, nothing is appended.

@@ -1,8 +1,9 @@
 //! The five fields of a line.
 ghost use Rattle.std.specs.Prelude.{◌≡◌, ◌≤◌, length};
-ghost use Rattle.text.specs.Fields.{blanks_of, number_of, field_of, fields_of};
+ghost use Rattle.text.specs.Fields.{number_of, field_of, fields_of};
 
 /// What a field holds.
+// Three cases that the checks tell apart in turn. An option in a result would not name them.
 #[derive(Clone, Copy, PartialEq, Eq, Debug)]
 pub enum Field {
     /// Blanks alone.
@@ -28,27 +29,15 @@ pub struct Fields {
     pub q: Field,
 }
 
-/// How many blanks stand in front.
-fn blanks(column: &[u8]) -> usize
-    ensures value { result ≡ blanks_of column.now }
-    ensures within { result ≤ length column.now }
-{
-    for (i, byte) in column.iter().enumerate() {
-        if *byte != b' ' {
-            return i;
-        }
-    }
-    column.len()
-}
-
 /// The number that digits write, or `None` where some byte is no digit.
+// The library's `parse` is no plainer: it reads text, and takes a sign in front.
 fn number(digits: &[u8]) -> Option<u128>
     requires { length digits.now ≤ 21 }
     ensures { result ≡ number_of digits.now }
 {
     let mut value = 0u128;
     for byte in digits {
-        if *byte < b'0' || *byte > b'9' {
+        if !byte.is_ascii_digit() {
             return None;
         }
         value = value * 10 + u128::from(*byte - b'0');
@@ -61,21 +50,18 @@ fn read_field(column: &[u8]) -> Field
     requires { length column.now ≤ 21 }
     ensures { result ≡ field_of column.now }
 {
-    let digits = &column[blanks(column)..];
-    if digits.is_empty() {
+    let Some(start) = column.iter().position(|byte| *byte != b' ') else {
         return Field::Blank;
-    }
-    if digits[0] == b'0' && digits.len() > 1 {
-        return Field::Malformed;
-    }
-    match number(digits) {
-        Some(value) => Field::Number(value),
-        None => Field::Malformed,
+    };
+    match &column[start..] {
+        [b'0', _, ..] => Field::Malformed,
+        digits => number(digits).map_or(Field::Malformed, Field::Number),
     }
 }
 
 impl Fields {
     /// The fields of a line, or `None` where it is not 41 bytes long.
+    // By a name that says so: a `TryFrom` of bytes would hide that they are one line.
     pub fn read(line: &[u8]) -> Option<Fields>
         ensures { result ≡ fields_of line.now }
     {

@@ -1,27 +1,24 @@
 //! A reader of lines.
-ghost use Rattle.std.specs.Prelude.{◌≡◌, ◌≤◌, [], ◌∷◌, length, MatchOption};
-ghost use Rattle.text.specs.Lines.{lines, coming, line_length};
+ghost use Rattle.std.specs.Prelude.{◌≡◌, ◌==◌};
+ghost use Rattle.std.specs.Iterator.{item_count};
+ghost use Rattle.std.specs.List.{position};
+ghost use Rattle.text.specs.Lines.{lines, coming, HandsOut};
 
 /// Hands out the lines of an input, one after the other.
 /// A line ends at byte 10 or at the end of the input. After a last byte 10 there is no further
 /// line, and an empty input has one line of length 0.
+// The rules want a place in the whole input, and no rest of it that gets shorter.
 #[derive(Drop)]
 pub struct Reader<'a> {
     input: &'a [u8],
     place: usize,
 }
 
-/// How many bytes stand before the first byte 10, or in all where there is none.
-fn line_length(rest: &[u8]) -> usize
-    ensures value { result ≡ line_length rest.now }
-    ensures within { result ≤ length rest.now }
+/// How many bytes stand before the first byte 10, if there is one.
+fn line_end(rest: &[u8]) -> Option<usize>
+    ensures { result ≡ position (λ b. b == 10) rest.now }
 {
-    for (i, byte) in rest.iter().enumerate() {
-        if *byte == b'\n' {
-            return i;
-        }
-    }
-    rest.len()
+    rest.iter().position(|byte| *byte == b'\n')
 }
 
 impl<'a> Reader<'a> {
@@ -32,20 +29,23 @@ impl<'a> Reader<'a> {
     {
         Reader { input, place: 0 }
     }
+}
 
-    /// The next line, or `None` where there is no further one.
-    pub fn next(&mut self) -> Option<&'a [u8]>
-        ensures input { self.new.input.now ≡ self.old.input.now }
-        ensures line { MatchOption result
-            ((coming self.old ≡ []) × (coming self.new ≡ []))
-            (λ l. coming self.old ≡ l.now ∷ coming self.new) }
-    {
+/// Each line that is still to come is handed out, and after the last one there is none.
+impl<'a> Iterator for Reader<'a> {
+    type Item = &'a [u8];
+
+    ghost next_gives = { HandsOut };
+
+    ghost remaining = { item_count coming };
+
+    fn next(&mut self) -> Option<&'a [u8]> {
         let start = self.place;
         if start > 0 && start >= self.input.len() {
             return None;
         }
         let rest = &self.input[start..];
-        let end = start + line_length(rest);
+        let end = start + line_end(rest).unwrap_or(rest.len());
         self.place = end + 1;
         Some(&self.input[start..end])
     }

@@ -1,13 +1,12 @@
--- The granules and the format of a run.
-use Rattle.std.proofs.Common.{◌≡◌, ℕ, ◌+◌, ◌*◌, ◌/◌, ◌%◌, ◌≤◌, min, List, length, Result, sym, ◌∙◌, subst, arith}
+-- The granules of a run.
+use Rattle.std.proofs.Common.{◌≡◌, ℕ, ◌+◌, ◌*◌, ◌/◌, ◌%◌, ◌≤◌, min, List, length, Result, ◌∙◌, subst, arith}
 use Rattle.capability.specs.Formats.{Meaning}
 use Rattle.store.specs.Cells.{length_listed}
 use Rattle.flat.specs.Flat.{word_at, tag_at, fitting, flat_cells}
 use Rattle.words.specs.Records.{meaning, record_at, record_cells}
 use Rattle.words.specs.Records as records
 use Rattle.words.specs.declared.Granule.{Granule}
-use Rattle.lines.specs.declared.heading.FormatKind.{FormatKind}
-use Rattle.trace.specs.Run.{meaning_of, session, Appends}
+use Rattle.trace.specs.Run.{session, Appends}
 
 pub flat_count : (bytes tags : List ℕ) (n : ℕ) → n ≤ 8192 → length bytes ≡ 8 * n → length tags ≡ n / 8 + min 1 (n % 8) →
     length (flat_cells bytes tags) ≡ n
@@ -21,8 +20,3 @@ records_count gs n few e = length_listed (records.fitting gs) (λ i. meaning (re
 pub counted : {X Y : Type 0} (r : Result X Y) (m : Meaning) (first k n : ℕ) (out all : List ℕ) (ls : List (List ℕ)) → k ≡ n →
     Appends r out all (session m first k ls) → Appends r out all (session m first n ls)
 counted r m first k n out all ls e h = subst (λ j. Appends r out all (session m first j ls)) e h
-
--- a run in the format of a heading
-pub in_format : {X Y : Type 0} (r : Result X Y) (k format : FormatKind) (first n : ℕ) (out all : List ℕ) (ls : List (List ℕ)) → k ≡ format →
-    Appends r out all (session (meaning_of format) first n ls) → Appends r out all (session (meaning_of k) first n ls)
-in_format r k format first n out all ls e h = subst (λ j. Appends r out all (session (meaning_of j) first n ls)) (sym e) h

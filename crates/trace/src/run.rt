@@ -1,41 +1,46 @@
 //! A whole run.
-ghost use Rattle.std.specs.Prelude.{◌≡◌, ◌<◌, ◌≤◌, ◌++◌, length, OnOk};
+ghost use Rattle.std.specs.Prelude.{◌≡◌, ◌≤◌, ◌++◌, length, MatchResult, OnOk};
 ghost use Rattle.memory.specs.Of.{plain};
+ghost use Rattle.text.specs.Answers.{answer_line};
 ghost use Rattle.text.specs.Lines.{coming};
 ghost use Rattle.lines.specs.Calls.{saying};
-ghost use Rattle.trace.specs.Run.{fault_line, outcome_line, reply_to, left_by, replies, session, Appends};
+ghost use Rattle.trace.specs.Run.{fault_line, reply_to, left_by, replies, session, Appends};
 
 use capability::format::Format;
-use capability::refusal::Refusal;
 use lines::fault::Fault;
+use lines::heading::Heading;
 use lines::line::Line;
 use memory::memory::Memory;
-use std::alloc::AllocError;
+use std::alloc::{AllocError, Global};
 use store::Store;
-use text::answer::{push_answer, push_remark};
+use text::answer::{LineNumber, push_answer, push_remark};
 use text::reader::Reader;
 use window::Window;
 
-/// Appends the answer line of a fault.
-pub(crate) fn push_fault(out: &mut Vec<u8>, number: u32, fault: Fault) -> Result<(), AllocError>
-    requires { number < 1000000 }
-    ensures { Appends result out.old.items out.new.items (fault_line number fault) }
-{
-    push_answer(out, number, fault.refusal.number(), fault.answer)
+/// A run after its heading: the lines that are still to come, and what they run on.
+// The output is no part of it: it is the caller's, who has it still where memory is wanting.
+#[derive(Drop)]
+pub(crate) struct Run<'a> {
+    pub(crate) heap: Global,
+    pub(crate) heading: Heading,
+    pub(crate) reader: Reader<'a>,
+    ghost few: { heading.granules ≤ 8192 },
+    ghost short: { length (coming reader) ≤ 65537 },
 }
 
-/// Appends the answer line of a call.
-fn push_outcome(
+/// Appends the answer line of a call or of a fault.
+pub(crate) fn push_outcome(
     out: &mut Vec<u8>,
-    number: u32,
-    outcome: Result<u64, Refusal>,
+    number: LineNumber,
+    outcome: Result<u64, Fault>,
 ) -> Result<(), AllocError>
-    requires { number < 1000000 }
-    ensures { Appends result out.old.items out.new.items (outcome_line number outcome) }
+    ensures { MatchResult outcome
+        (λ answer. Appends result out.old.items out.new.items (answer_line number 0 answer))
+        (λ fault. Appends result out.old.items out.new.items (fault_line number fault)) }
 {
     match outcome {
         Ok(answer) => push_answer(out, number, 0, answer),
-        Err(refusal) => push_answer(out, number, refusal.number(), 0),
+        Err(fault) => push_answer(out, number, fault.refusal.into(), fault.answer),
     }
 }
 
@@ -43,17 +48,16 @@ fn push_outcome(
 fn reply<F: Format, S: Store>(
     memory: &mut Memory<F, S>,
     out: &mut Vec<u8>,
-    number: u32,
+    number: LineNumber,
     line: &[u8],
 ) -> Result<(), AllocError>
-    requires { number < 1000000 }
     ensures { OnOk result ((out.new.items ≡ out.old.items ++ reply_to F.Format.meaning (plain S.Store.origin S.Store.cells memory.old) number (saying line.now))
         × (plain S.Store.origin S.Store.cells memory.new ≡ left_by F.Format.meaning (plain S.Store.origin S.Store.cells memory.old) (saying line.now))) }
 {
     match Line::read(line) {
         Line::Remark(remark) => push_remark(out, remark),
-        Line::Call(call) => push_outcome(out, number, memory.perform(call)),
-        Line::Fault(fault) => push_fault(out, number, fault),
+        Line::Call(call) => push_outcome(out, number, memory.perform(call).map_err(Fault::from)),
+        Line::Fault(fault) => push_outcome(out, number, Err(fault)),
     }
 }
 
@@ -61,46 +65,36 @@ fn reply<F: Format, S: Store>(
 fn reply_all<F: Format, S: Store>(
     memory: &mut Memory<F, S>,
     out: &mut Vec<u8>,
-    mut reader: Reader<'_>,
+    reader: Reader<'_>,
 ) -> Result<(), AllocError>
     requires { length (coming reader) ≤ 65537 }
     ensures { Appends result out.old.items out.new.items (replies F.Format.meaning (plain S.Store.origin S.Store.cells memory.old) 2 (coming reader.entry)) }
 {
-    let mut number = 2;
-    while let Some(line) = reader.next() {
+    // The number goes beside the lines, since it knows its bound; a range of numbers would be one of plain numbers.
+    let mut number = LineNumber::HEADING.next();
+    for line in reader {
         reply(memory, out, number, line)?;
-        number += 1;
+        number = number.next();
     }
     Ok(())
 }
 
-/// Starts a memory over a store, answers the heading with the usable granules, and then each line.
-fn run<F: Format, S: Store>(
-    store: &mut S,
-    out: &mut Vec<u8>,
-    reader: Reader<'_>,
-) -> Result<(), AllocError>
-    requires { length (coming reader) ≤ 65537 }
-    ensures { Appends result out.old.items out.new.items (session F.Format.meaning (S.Store.origin store.old) (length (S.Store.cells store.old)) (coming reader.entry)) }
-{
-    let mut memory: Memory<F, S> = Memory::start(store, 1);
-    push_answer(out, 1, 0, u64::from(memory.usable()))?;
-    reply_all(&mut memory, out, reader)
-}
-
-/// The same, with another first granule.
-pub(crate) fn run_window<F: Format, S: Store>(
-    store: &mut S,
-    first: u32,
-    out: &mut Vec<u8>,
-    reader: Reader<'_>,
-) -> Result<(), AllocError>
-    requires { length (coming reader) ≤ 65537 }
-    ensures { Appends result out.old.items out.new.items (session F.Format.meaning first (length (S.Store.cells store.old)) (coming reader.entry)) }
-{
-    let mut window = Window {
-        below: store,
-        first,
-    };
-    run::<F, Window<S>>(&mut window, out, reader)
+impl Run<'_> {
+    /// Starts a memory over a store with the heading's first granule, answers the heading with the
+    /// usable granules, and then each line.
+    pub(crate) fn over<F: Format, S: Store>(
+        self,
+        store: &mut S,
+        out: &mut Vec<u8>,
+    ) -> Result<(), AllocError>
+        ensures { Appends result out.old.items out.new.items (session F.Format.meaning self.entry.heading.first (length (S.Store.cells store.old)) (coming self.entry.reader)) }
+    {
+        let mut window = Window {
+            below: store,
+            first: self.heading.first,
+        };
+        let mut memory: Memory<F, Window<S>> = Memory::start(&mut window, 1);
+        push_answer(out, LineNumber::HEADING, 0, u64::from(memory.usable()))?;
+        reply_all(&mut memory, out, self.reader)
+    }
 }

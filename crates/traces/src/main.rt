@@ -6,16 +6,12 @@ use trace::transcript::transcript;
 
 /// The line on which two texts first differ, from 1 on; none where they are the same.
 fn first_difference(a: &[u8], b: &[u8]) -> Option<usize> {
-    let mut line = 1usize;
-    for (x, y) in a.iter().zip(b.iter()) {
-        if *x != *y {
-            return Some(line);
-        }
-        if *x == b'\n' {
-            line = line.saturating_add(1);
-        }
+    if a == b {
+        return None;
     }
-    if a.len() == b.len() { None } else { Some(line) }
+    let same = a.iter().zip(b).take_while(|(x, y)| x == y).count();
+    let ends = a.iter().take(same).filter(|byte| **byte == b'\n').count();
+    Some(ends.saturating_add(1))
 }
 
 /// Runs one trace.

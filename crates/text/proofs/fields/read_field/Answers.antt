@@ -1,16 +1,22 @@
-use Rattle.std.proofs.Common.{rules}
+use Rattle.std.proofs.Common.{◌≡◌, drop, rules, sym, ◌∙◌}
 use Rattle.std.proofs.lemmas.List.{take_rest}
-use Rattle.text.proofs.Numbers.{text_blank, text_zero, text_number, text_none}
+use Rattle.text.specs.Fields.{text_of, field_of}
+use Rattle.text.proofs.Numbers.{field_blank, field_text, text_zero, text_read}
 use Rattle.text.proofs.fields.read_field.Goals as goal
 
-pub returns-then-is_empty : goal.returns-then-is_empty
-returns-then-is_empty c = search (rules, take_rest, text_blank)
+pub returns-in_default : goal.returns-in_default
+returns-in_default c = search (rules, field_blank)
 
-pub returns-then-digits-gt1 : goal.returns-then-digits-gt1
-returns-then-digits-gt1 c = search (rules, take_rest, text_zero)
+pub returns-in-48 : goal.returns-in-48
+returns-in-48 c =
+    let column = c.args.column.now in
+    let i = c.in-Some.start in
+    let f : field_of column ≡ text_of (drop i column) = search (rules, field_text) in
+    sym (f ∙ text_zero (drop i column) (search (rules, take_rest)) (search (rules, take_rest)))
 
-pub returns-in-Some : goal.returns-in-Some
-returns-in-Some c = search (rules, take_rest, text_number)
-
-pub returns-in-None : goal.returns-in-None
-returns-in-None c = search (rules, take_rest, text_none)
+pub returns-in_default-2 : goal.returns-in_default-2
+returns-in_default-2 c =
+    let column = c.args.column.now in
+    let i = c.in-Some.start in
+    let f : field_of column ≡ text_of (drop i column) = search (rules, field_text) in
+    text_read (drop i column) _ _ (search (rules, take_rest)) (search (rules, take_rest)) (search (rules, take_rest)) c.map_or.ensures ∙ sym f

@@ -6,9 +6,6 @@ use Rattle.trace.proofs.run.reply_all.Given as goal
 
 abbrev pub invariant-loop-line : goal.invariant-loop-line
 invariant-loop-line g l =
-    (l.number + length (coming l.reader) ≤ 65539)
-    × (vec_items l.out ++ replies g.F.Format.meaning (plain g.S.Store.origin g.S.Store.cells l.memory) l.number (coming l.reader)
-    ≡ vec_items l.initial.out ++ replies g.F.Format.meaning (plain g.S.Store.origin g.S.Store.cells l.initial.memory) 2 (coming l.initial.reader))
-
-abbrev pub decreases-loop-line : goal.decreases-loop-line
-decreases-loop-line g l = length (coming l.reader)
+    (l.number + length (coming l.line-iterator) ≤ 65539)
+    × (vec_items l.out ++ replies g.F.Format.meaning (plain g.S.Store.origin g.S.Store.cells l.memory) l.number (coming l.line-iterator)
+    ≡ vec_items l.initial.out ++ replies g.F.Format.meaning (plain g.S.Store.origin g.S.Store.cells l.initial.memory) 2 (coming l.fn.reader))

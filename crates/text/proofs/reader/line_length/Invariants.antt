@@ -1,6 +1,0 @@
-use Rattle.std.proofs.Common.{◌≡◌, ◌+◌, drop}
-use Rattle.text.specs.Lines.{line_length}
-use Rattle.text.proofs.reader.line_length.Given as goal
-
-abbrev pub invariant-loop-i : goal.invariant-loop-i
-invariant-loop-i l = l.i + line_length (drop l.i l.rest) ≡ line_length l.rest

@@ -1,0 +1,11 @@
+use Rattle.std.proofs.Common.{◌∙◌}
+use Rattle.text.specs.Lines.{coming}
+use Rattle.trace.proofs.Sessions.{records_count, counted}
+use Rattle.trace.proofs.run.Run.on_words.Goals as goal
+
+pub returns : goal.returns
+returns g c =
+    counted c.over.result g.F.Format.meaning c.args.self.heading.first _ _ _ _ (coming c.args.self.reader)
+    (records_count c.as_mut_slice.result.now c.args.self.heading.granules c.args.self.few
+    (c.as_mut_slice.ensures.len ∙ c.in_ok-granules.ensures.len))
+    c.over.ensures
