@@ -33,7 +33,7 @@ def main():
         if why is None:
             goal = "not seen"
         else:
-            named = re.search(r"\(`([\w+.'-]+)`\)|error: `([\w+.'-]+)`", why)
+            named = re.search(r"\(`([\w+.'-]+)(?:`\)|`?$)|error: `([\w+.'-]+)`", why)
             goal = "`" + (named.group(1) or named.group(2)) + "`" if named else "?" + why[:80]
             where = re.search(r"\./proofs/([\w/+'-]+)/Answers\.antt", why)
             if where:
@@ -47,6 +47,8 @@ def main():
 def function_at(path, line):
     """The function whose head or body has this line."""
     lines = open(path, encoding="utf-8").read().splitlines()
+    while line <= len(lines) and re.match(r"\s*(//|#\[)", lines[line - 1]):
+        line += 1
     around = [m.group(1) for m in (re.match(r"\s*(?:pub(?:\(\w+\))? )?(?:const )?fn (\w+)", x) for x in lines[:line]) if m]
     return around[-1] if around else os.path.basename(path)
 
