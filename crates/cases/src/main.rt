@@ -3,6 +3,7 @@
 
 ghost use Rattle.std.specs.Prelude.{◌≤◌, length};
 
+use memchr::memchr;
 use std::io;
 use std::io::{Read, Write};
 use trace::transcript::transcript;
@@ -11,14 +12,12 @@ use trace::transcript::transcript;
 fn line_end(case: &[u8]) -> usize
     ensures { result ≤ length case.now }
 {
-    case.iter()
-        .position(|byte| *byte == b'\n')
-        .map_or(case.len(), |end| end + 1)
+    memchr(b'\n', case).map_or(case.len(), |end| end + 1)
 }
 
 /// Writes each title and the transcript of the bytes after it.
 fn answer_all(rt: &HostRuntime, input: &[u8]) -> io::Result<()> {
-    for case in input.chunk_by(|before, byte| *before != b'\n' || *byte != b'#') {
+    for case in input.chunk_by(|before, byte| *byte != b'#' || *before != b'\n') {
         if case.starts_with(b"#") {
             let (title, trace) = case.split_at(line_end(case));
             rt.stdout().write_all(title)?;

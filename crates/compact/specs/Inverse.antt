@@ -63,10 +63,15 @@ module _ (a l h e r : ℕ) (fa : a < 2 ^ 32) (fl : l < 512) (fh : h < 512) (fe :
   pub fields_fit : a * 2 ^ 0 + l * 2 ^ 32 + h * 2 ^ 41 + e * 2 ^ 50 + r * 2 ^ 54 < 2 ^ 60
   fields_fit = omega arith
 
-  -- as the code shifts them
-  pub shifted : a * 2 ^ 0 % 2 ^ 64 + l * 2 ^ 32 % 2 ^ 64 + h * 2 ^ 41 % 2 ^ 64 + e * 2 ^ 50 % 2 ^ 64 + r * 2 ^ 54 % 2 ^ 64
+  -- the fields shifted and added up, the address as it stands
+  pub shifted : a + (l * 2 ^ 32 % 2 ^ 64 + h * 2 ^ 41 % 2 ^ 64 + e * 2 ^ 50 % 2 ^ 64) + r * 2 ^ 54 % 2 ^ 64
       ≡ a * 2 ^ 0 + l * 2 ^ 32 + h * 2 ^ 41 + e * 2 ^ 50 + r * 2 ^ 54
   shifted = omega arith
+
+  -- the same as the code adds them up, with the address put in its place as the other fields are
+  pub fields_sum : a * 2 ^ 0 % 2 ^ 64 + l * 2 ^ 32 % 2 ^ 64 + h * 2 ^ 41 % 2 ^ 64 + e * 2 ^ 50 % 2 ^ 64 + r * 2 ^ 54 % 2 ^ 64
+      ≡ a * 2 ^ 0 + l * 2 ^ 32 + h * 2 ^ 41 + e * 2 ^ 50 + r * 2 ^ 54
+  fields_sum = omega arith
 
 -- the bounds in units, found again from the address and nine bits of each
 base_back : (a b : ℕ) → b ≤ a → a < b + 512 → base_units a (b % 512) ≡ b

@@ -78,6 +78,8 @@ impl Format for Compact {
 
     ghost lawful = { Units.lawful };
 
+    // Inlined, since a narrow that calls it takes a quarter more instructions than one in which it stands.
+    #[inline(always)]
     fn write(c: Capability) -> Result<u64, Refusal> {
         let e = exponent(c.base, c.top);
         if !carried(c, e) {

@@ -59,16 +59,25 @@ impl Transfer {
     {
         let start = 8 * i;
         let end = self.to + self.size;
-        if self.to <= start && start + 8 <= end && self.to % 8 == self.from % 8 {
-            let source = (start - self.to + self.from) / 8;
-            let (word, tag) = granule_at(store, source);
-            // Set by the tag that it gets: a granule of data takes a sixth fewer instructions so.
-            if tag && test(word) {
-                let _ = store.set(i, word, true);
-                return true;
+        if self.to <= start && start + 8 <= end {
+            let x = start - self.to + self.from;
+            if self.to % 8 == self.from % 8 {
+                let source = x / 8;
+                let (word, tag) = granule_at(store, source);
+                // Set by the tag that it gets: a granule of data takes a sixth fewer instructions so.
+                if tag && test(word) {
+                    let _ = store.set(i, word, true);
+                    return true;
+                }
+                let _ = store.set(i, word, false);
+                false
+            } else {
+                // No byte stays, so what stands here is not asked for: a long copy between addresses that do not stand alike in
+                // their granules has hardly another granule.
+                let new = assemble(store, x);
+                let _ = store.set(i, new, false);
+                false
             }
-            let _ = store.set(i, word, false);
-            false
         } else {
             self.copy_part(store, i);
             false

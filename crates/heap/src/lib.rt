@@ -10,6 +10,7 @@ ghost use Rattle.plain.specs.declared.types.Sweep.{Sweep};
 ghost use Rattle.plain.specs.Blocks.{is_live, is_whole};
 ghost use Rattle.plain.specs.Memory.{Matches, room, call_allocate, call_free, call_whose};
 ghost use Rattle.slots.specs.Parts.{made_of};
+ghost use Rattle.table.specs.Recorded.{Sound};
 
 use capability::format::Format;
 use capability::refusal::Refusal;
@@ -57,6 +58,7 @@ pub fn allocate<F: Format, S: Store>(
     size: u32,
 ) -> Result<u64, Refusal>
     ensures does { (sweep : Sweep) → Matches (call_allocate F.Format.meaning (made_of slots.old.cells table.old next.old sweep (S.Store.origin store.old) (S.Store.cells store.old)) slot size) result (made_of slots.new.cells table.new next.new sweep (S.Store.origin store.new) (S.Store.cells store.new)) }
+    ensures sound { Sound table.old → Sound table.new }
     ensures held { S.Store.kept store.new ≡ S.Store.kept store.old }
 {
     let slot = SlotNumber::try_from(slot)?;
@@ -98,7 +100,8 @@ fn is_all(c: Capability, block: Block) -> bool
 
 /// The block of the slot's capability turns freed. Answers its serial.
 pub fn free<F: Format>(slots: &Slots, table: &mut Table, slot: u32) -> Result<u64, Refusal>
-    ensures { (next : ℕ) (sweep : Sweep) (first : ℕ) (cells : List Cell) → Matches (call_free F.Format.meaning (made_of slots.now.cells table.old next sweep first cells) slot) result (made_of slots.now.cells table.new next sweep first cells) }
+    ensures does { (next : ℕ) (sweep : Sweep) (first : ℕ) (cells : List Cell) → Matches (call_free F.Format.meaning (made_of slots.now.cells table.old next sweep first cells) slot) result (made_of slots.now.cells table.new next sweep first cells) }
+    ensures sound { Sound table.old → Sound table.new }
 {
     let slot = SlotNumber::try_from(slot)?;
     let c = slots.tagged::<F>(slot)?;

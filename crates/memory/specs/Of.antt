@@ -2,6 +2,7 @@
 use Rattle.std.specs.Prelude.{◌≡◌, ℕ, List}
 use Rattle.store.specs.Cells.{Cell, Kept}
 use Rattle.plain.specs.Memory.{Plain}
+use Rattle.table.specs.Recorded.{Sound}
 use Rattle.memory.specs.declared.memory.Memory.{Memory}
 
 abbrev pub plain : {F S : Type 0} → (S → ℕ) → (S → List Cell) → Memory F S → Plain
@@ -17,3 +18,7 @@ plain origin cells m = record {
 -- a memory that has the store that another one had, of which nothing changed but the granules
 abbrev pub Keeps : {F S : Type 0} → (S → Kept) → Memory F S → Memory F S → Type 0
 Keeps kept old new = (new.store.ghost_name ≡ old.store.ghost_name) × (kept new.store.now ≡ kept old.store.now)
+
+-- at most 64 blocks are on record, none is empty, and each is whole granules
+abbrev pub Tabled : {F S : Type 0} → Memory F S → Type 0
+Tabled m = Sound m.table

@@ -1,9 +1,9 @@
 //! The calls, each a method with numbers as parameters. What a call does to the parts of the memory is done in the crates below.
 //! The function there takes only the parts that the call touches, so that its contract says what it cannot touch; no two of the
-//! parts go together in every call.
+//! parts go together in every call. `tabled` says of each call what `bounded` tells of the table.
 ghost use Rattle.std.specs.Prelude.{◌≡◌};
 ghost use Rattle.plain.specs.Memory.{Matches, call_allocate, call_free, call_move, call_narrow, call_restrict, call_load, call_store, call_fetch, call_put, call_copy, call_open, call_advance, call_close, call_whose, call_tally};
-ghost use Rattle.memory.specs.Of.{plain, Keeps};
+ghost use Rattle.memory.specs.Of.{plain, Tabled, Keeps};
 
 use crate::memory::Memory;
 use capability::format::Format;
@@ -15,7 +15,9 @@ impl<F: Format, S: Store> Memory<'_, F, S> {
     pub fn allocate(&mut self, slot: u32, size: u32) -> Result<u64, Refusal>
         ensures does { Matches (call_allocate F.Format.meaning (plain S.Store.origin S.Store.cells self.old) slot size) result (plain S.Store.origin S.Store.cells self.new) }
         ensures keeps { Keeps S.Store.kept self.old self.new }
+        ensures tabled { Tabled self.new }
     {
+        self.table.bounded();
         heap::allocate::<F, S>(
             &mut self.slots,
             &mut self.table,
@@ -30,7 +32,9 @@ impl<F: Format, S: Store> Memory<'_, F, S> {
     pub fn free(&mut self, slot: u32) -> Result<u64, Refusal>
         ensures does { Matches (call_free F.Format.meaning (plain S.Store.origin S.Store.cells self.old) slot) result (plain S.Store.origin S.Store.cells self.new) }
         ensures keeps { Keeps S.Store.kept self.old self.new }
+        ensures tabled { Tabled self.new }
     {
+        self.table.bounded();
         heap::free::<F>(&self.slots, &mut self.table, slot)
     }
 
@@ -38,7 +42,9 @@ impl<F: Format, S: Store> Memory<'_, F, S> {
     pub fn move_to(&mut self, to: u32, from: u32, address: u32) -> Result<u64, Refusal>
         ensures does { Matches (call_move F.Format.meaning (plain S.Store.origin S.Store.cells self.old) to from address) result (plain S.Store.origin S.Store.cells self.new) }
         ensures keeps { Keeps S.Store.kept self.old self.new }
+        ensures tabled { Tabled self.new }
     {
+        self.table.bounded();
         derive::move_to::<F>(&mut self.slots, to, from, address)
     }
 
@@ -46,7 +52,9 @@ impl<F: Format, S: Store> Memory<'_, F, S> {
     pub fn narrow(&mut self, to: u32, from: u32, base: u32, length: u64) -> Result<u64, Refusal>
         ensures does { Matches (call_narrow F.Format.meaning (plain S.Store.origin S.Store.cells self.old) to from base length) result (plain S.Store.origin S.Store.cells self.new) }
         ensures keeps { Keeps S.Store.kept self.old self.new }
+        ensures tabled { Tabled self.new }
     {
+        self.table.bounded();
         derive::narrow::<F>(&mut self.slots, to, from, base, length)
     }
 
@@ -54,7 +62,9 @@ impl<F: Format, S: Store> Memory<'_, F, S> {
     pub fn restrict(&mut self, to: u32, from: u32, mask: u32) -> Result<u64, Refusal>
         ensures does { Matches (call_restrict F.Format.meaning (plain S.Store.origin S.Store.cells self.old) to from mask) result (plain S.Store.origin S.Store.cells self.new) }
         ensures keeps { Keeps S.Store.kept self.old self.new }
+        ensures tabled { Tabled self.new }
     {
+        self.table.bounded();
         derive::restrict::<F>(&mut self.slots, to, from, mask)
     }
 
@@ -62,7 +72,9 @@ impl<F: Format, S: Store> Memory<'_, F, S> {
     pub fn load(&mut self, slot: u32, width: u32) -> Result<u64, Refusal>
         ensures does { Matches (call_load F.Format.meaning (plain S.Store.origin S.Store.cells self.old) slot width) result (plain S.Store.origin S.Store.cells self.new) }
         ensures keeps { Keeps S.Store.kept self.old self.new }
+        ensures tabled { Tabled self.new }
     {
+        self.table.bounded();
         access::load::<F, S>(&self.slots, self.store, slot, width)
     }
 
@@ -70,7 +82,9 @@ impl<F: Format, S: Store> Memory<'_, F, S> {
     pub fn store(&mut self, slot: u32, width: u32, value: u64) -> Result<u64, Refusal>
         ensures does { Matches (call_store F.Format.meaning (plain S.Store.origin S.Store.cells self.old) slot width value) result (plain S.Store.origin S.Store.cells self.new) }
         ensures keeps { Keeps S.Store.kept self.old self.new }
+        ensures tabled { Tabled self.new }
     {
+        self.table.bounded();
         access::store::<F, S>(&self.slots, self.store, slot, width, value)
     }
 
@@ -79,7 +93,9 @@ impl<F: Format, S: Store> Memory<'_, F, S> {
     pub fn fetch(&mut self, to: u32, through: u32) -> Result<u64, Refusal>
         ensures does { Matches (call_fetch F.Format.meaning (plain S.Store.origin S.Store.cells self.old) to through) result (plain S.Store.origin S.Store.cells self.new) }
         ensures keeps { Keeps S.Store.kept self.old self.new }
+        ensures tabled { Tabled self.new }
     {
+        self.table.bounded();
         access::fetch::<F, S>(&mut self.slots, &self.table, self.store, to, through)
     }
 
@@ -87,7 +103,9 @@ impl<F: Format, S: Store> Memory<'_, F, S> {
     pub fn put(&mut self, through: u32, from: u32) -> Result<u64, Refusal>
         ensures does { Matches (call_put F.Format.meaning (plain S.Store.origin S.Store.cells self.old) through from) result (plain S.Store.origin S.Store.cells self.new) }
         ensures keeps { Keeps S.Store.kept self.old self.new }
+        ensures tabled { Tabled self.new }
     {
+        self.table.bounded();
         access::put::<F, S>(&self.slots, self.store, through, from)
     }
 
@@ -96,7 +114,9 @@ impl<F: Format, S: Store> Memory<'_, F, S> {
     pub fn copy(&mut self, to: u32, from: u32, size: u32) -> Result<u64, Refusal>
         ensures does { Matches (call_copy F.Format.meaning (plain S.Store.origin S.Store.cells self.old) to from size) result (plain S.Store.origin S.Store.cells self.new) }
         ensures keeps { Keeps S.Store.kept self.old self.new }
+        ensures tabled { Tabled self.new }
     {
+        self.table.bounded();
         carry::copy::<F, S>(&self.slots, &self.table, self.store, to, from, size)
     }
 
@@ -104,7 +124,9 @@ impl<F: Format, S: Store> Memory<'_, F, S> {
     pub fn open(&mut self) -> Result<u64, Refusal>
         ensures does { Matches (call_open F.Format.meaning (plain S.Store.origin S.Store.cells self.old)) result (plain S.Store.origin S.Store.cells self.new) }
         ensures keeps { Keeps S.Store.kept self.old self.new }
+        ensures tabled { Tabled self.new }
     {
+        self.table.bounded();
         sweep::open::<F>(&mut self.slots, &mut self.table, &mut self.sweep)
     }
 
@@ -112,7 +134,9 @@ impl<F: Format, S: Store> Memory<'_, F, S> {
     pub fn advance(&mut self, count: u32) -> Result<u64, Refusal>
         ensures does { Matches (call_advance F.Format.meaning (plain S.Store.origin S.Store.cells self.old) count) result (plain S.Store.origin S.Store.cells self.new) }
         ensures keeps { Keeps S.Store.kept self.old self.new }
+        ensures tabled { Tabled self.new }
     {
+        self.table.bounded();
         sweep::advance::<F, S>(&self.table, &mut self.sweep, self.store, count)
     }
 
@@ -120,7 +144,9 @@ impl<F: Format, S: Store> Memory<'_, F, S> {
     pub fn close(&mut self) -> Result<u64, Refusal>
         ensures does { Matches (call_close F.Format.meaning (plain S.Store.origin S.Store.cells self.old)) result (plain S.Store.origin S.Store.cells self.new) }
         ensures keeps { Keeps S.Store.kept self.old self.new }
+        ensures tabled { Tabled self.new }
     {
+        self.table.bounded();
         sweep::close::<F, S>(&mut self.table, &mut self.sweep, self.store)
     }
 
@@ -128,7 +154,9 @@ impl<F: Format, S: Store> Memory<'_, F, S> {
     pub fn whose(&mut self, slot: u32) -> Result<u64, Refusal>
         ensures does { Matches (call_whose F.Format.meaning (plain S.Store.origin S.Store.cells self.old) slot) result (plain S.Store.origin S.Store.cells self.new) }
         ensures keeps { Keeps S.Store.kept self.old self.new }
+        ensures tabled { Tabled self.new }
     {
+        self.table.bounded();
         heap::whose::<F>(&self.slots, &self.table, slot)
     }
 
@@ -136,6 +164,7 @@ impl<F: Format, S: Store> Memory<'_, F, S> {
     pub fn tally(&mut self) -> Result<u64, Refusal>
         ensures does { Matches (call_tally (plain S.Store.origin S.Store.cells self.old)) result (plain S.Store.origin S.Store.cells self.new) }
         ensures keeps { Keeps S.Store.kept self.old self.new }
+        ensures tabled { Tabled self.new }
     {
         Ok(self.table.bytes())
     }

@@ -2,7 +2,7 @@
 ghost use Rattle.std.specs.Prelude.{◌≡◌};
 ghost use Rattle.plain.specs.Memory.{Matches};
 ghost use Rattle.plain.specs.Step.{step};
-ghost use Rattle.memory.specs.Of.{plain, Keeps};
+ghost use Rattle.memory.specs.Of.{plain, Tabled, Keeps};
 
 use crate::memory::Memory;
 use capability::format::Format;
@@ -16,6 +16,7 @@ impl<F: Format, S: Store> Memory<'_, F, S> {
     pub fn perform(&mut self, call: Call) -> Result<u64, Refusal>
         ensures does { Matches (step F.Format.meaning (plain S.Store.origin S.Store.cells self.old) call) result (plain S.Store.origin S.Store.cells self.new) }
         ensures keeps { Keeps S.Store.kept self.old self.new }
+        ensures tabled { Tabled self.new }
     {
         // The calls are an enum, as the rules want them: they are read from a trace, and told in the guarantee.
         match call {

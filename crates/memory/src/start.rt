@@ -3,7 +3,7 @@ ghost use Rattle.std.specs.Prelude.{◌≡◌, List, length};
 ghost use Rattle.plain.specs.declared.types.Call.{Call};
 ghost use Rattle.plain.specs.Guarantee.{Safe};
 ghost use Rattle.plain.specs.Memory.{started, usable as usable_count};
-ghost use Rattle.memory.specs.Of.{plain};
+ghost use Rattle.memory.specs.Of.{plain, Tabled};
 
 use crate::memory::Memory;
 use capability::format::Format;
@@ -37,8 +37,10 @@ impl<'a, F: Format, S: Store> Memory<'a, F, S> {
 
     /// How many granules are usable: those that end within the span.
     pub fn usable(&self) -> u32
-        ensures { result ≡ usable_count F.Format.meaning (plain S.Store.origin S.Store.cells self.now).first (plain S.Store.origin S.Store.cells self.now).cells }
+        ensures is { result ≡ usable_count F.Format.meaning (plain S.Store.origin S.Store.cells self.now).first (plain S.Store.origin S.Store.cells self.now).cells }
+        ensures tabled { Tabled self.now }
     {
+        self.table.bounded();
         slots::reads::usable::<F, S>(self.store)
     }
 }

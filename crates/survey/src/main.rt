@@ -1,7 +1,8 @@
 //! Reads and writes words of both formats, and prints what it found.
 #![tactic(auto)]
 
-ghost use Rattle.std.specs.Prelude.{◌≡◌};
+ghost use Rattle.std.specs.Prelude.{◌≡◌, ◌<◌};
+ghost use Rattle.capability.specs.Formats.{rounded};
 ghost use Rattle.capability.specs.Fields.{field};
 
 use capability::field::Field;
@@ -98,6 +99,19 @@ struct Rounded {
     size: u64,
 }
 
+impl Rounded {
+    /// The unit, which is above 0, and a size rounded up to a multiple of it.
+    fn to(unit: u32, size: u32) -> Rounded
+        requires { 0 < unit }
+        ensures { result ≡ record { unit = unit; size = rounded size unit } }
+    {
+        Rounded {
+            unit,
+            size: (size as u64).next_multiple_of(unit as u64),
+        }
+    }
+}
+
 impl fmt::Display for Rounded {
     fn fmt<W: fmt::Write>(&self, f: &mut fmt::Formatter<W>) -> fmt::Result {
         write!(f, "unit {}, rounded {}", self.unit, self.size)
@@ -135,10 +149,7 @@ fn show_read(rt: &impl Print, word: u64) -> io::Result<()> {
 
 /// Shows the unit of a size in compact and the rounded size.
 fn show_unit(rt: &impl Print, size: u32) -> io::Result<()> {
-    let rounded = Compact::unit(size).map(|unit| Rounded {
-        unit,
-        size: (size as u64).next_multiple_of(unit as u64),
-    });
+    let rounded = Compact::unit(size).map(|unit| Rounded::to(unit, size));
     show(rt, "compact", format_args!("size {size}"), rounded)
 }
 

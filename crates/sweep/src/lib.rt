@@ -6,6 +6,7 @@ ghost use Rattle.stored_bytes.specs.Bytes.{renewed};
 ghost use Rattle.store.specs.Cells.{Cell};
 ghost use Rattle.plain.specs.Memory.{Matches, cursor_of, cleaned, swept, call_open, call_advance, call_close};
 ghost use Rattle.slots.specs.Parts.{made_of};
+ghost use Rattle.table.specs.Recorded.{Sound};
 
 use capability::format::Format;
 use capability::refusal::Refusal;
@@ -58,7 +59,8 @@ pub fn open<F: Format>(
     table: &mut Table,
     sweep: &mut Sweep,
 ) -> Result<u64, Refusal>
-    ensures { (next first : ℕ) (cells : List Cell) → Matches (call_open F.Format.meaning (made_of slots.old.cells table.old next sweep.old first cells)) result (made_of slots.new.cells table.new next sweep.new first cells) }
+    ensures does { (next first : ℕ) (cells : List Cell) → Matches (call_open F.Format.meaning (made_of slots.old.cells table.old next sweep.old first cells)) result (made_of slots.new.cells table.new next sweep.new first cells) }
+    ensures sound { Sound table.old → Sound table.new }
 {
     if *sweep != Sweep::Shut {
         return Err(Refusal::SweepOpen);
@@ -94,7 +96,8 @@ pub fn close<F: Format, S: Store>(
     sweep: &mut Sweep,
     store: &S,
 ) -> Result<u64, Refusal>
-    ensures { (slots : List Slot) (next : ℕ) → Matches (call_close F.Format.meaning (made_of slots table.old next sweep.old (S.Store.origin store.now) (S.Store.cells store.now))) result (made_of slots table.new next sweep.new (S.Store.origin store.now) (S.Store.cells store.now)) }
+    ensures does { (slots : List Slot) (next : ℕ) → Matches (call_close F.Format.meaning (made_of slots table.old next sweep.old (S.Store.origin store.now) (S.Store.cells store.now))) result (made_of slots table.new next sweep.new (S.Store.origin store.now) (S.Store.cells store.now)) }
+    ensures sound { Sound table.old → Sound table.new }
 {
     let cursor = cursor_in(*sweep)?;
     if cursor < usable::<F, S>(store) {

@@ -3,6 +3,7 @@ ghost use Rattle.std.specs.Prelude.{◌≡◌, ℕ, ◌^◌, ◌<◌, ◌≤◌,
 ghost use Rattle.capability.specs.declared.refusal.Refusal.TheVariants.{TableFull};
 ghost use Rattle.plain.specs.Blocks.{entry_at, holds, lookup as place_of, size_of};
 ghost use Rattle.plain.specs.Memory.{block_limit};
+ghost use Rattle.table.specs.Recorded.{Sound};
 
 use crate::block::Block;
 use crate::table::{BLOCKS, Table};
@@ -47,9 +48,17 @@ impl Table {
     // The blocks on record.
     pub(crate) fn recorded(&self) -> &[Block]
         ensures all { result.now ≡ self.now }
-        ensures few { length result.now ≤ 64 }
+        ensures sound { Sound self.now }
     {
         &self.blocks[..self.used]
+    }
+
+    /// Tells a proof that at most 64 blocks are on record and each is whole, and does nothing.
+    // A caller sees the value of a model and not its invariant, so it is a clause.
+    pub fn bounded(&self)
+        ensures { Sound self.now }
+    {
+        let _used = &self.used;
     }
 
     /// Whether there are 64 blocks already.
@@ -64,6 +73,8 @@ impl Table {
     pub fn add(&mut self, block: Block) -> Result<(), Refusal>
         ensures outcome { result ≡ (if nat_lt (length self.old) block_limit then Ok tt else Err TableFull) }
         ensures after { self.new ≡ (if nat_lt (length self.old) block_limit then self.old ++ (block ∷ []) else self.old) }
+        ensures sound { Sound self.old }
+        ensures sound_after { Sound self.new }
     {
         if self.is_full() {
             return Err(Refusal::TableFull);
@@ -77,6 +88,7 @@ impl Table {
     pub fn lookup(&self, c: Capability) -> Option<usize>
         ensures is { result ≡ place_of self.now c }
         ensures within { IfSome result (λ i. i < length self.now) }
+        ensures sound { Sound self.now }
     {
         self.recorded().iter().position(|block| block.has(c.base))
     }
@@ -85,14 +97,16 @@ impl Table {
     // By a place and no reference: the rules want the lookup to give a place.
     pub fn at(&self, place: usize) -> Block
         requires { place < length self.now }
-        ensures { result ≡ entry_at self.now place }
+        ensures is { result ≡ entry_at self.now place }
+        ensures sound { Sound self.now }
     {
         self.recorded()[place]
     }
 
     /// The bytes summed over every block on record.
     pub fn bytes(&self) -> u64
-        ensures { result ≡ sum_by size_of self.now }
+        ensures is { result ≡ sum_by size_of self.now }
+        ensures sound { Sound self.now }
     {
         // The rules want a loop that adds the lengths up.
         let mut sum = 0;

@@ -2,6 +2,7 @@
 ghost use Rattle.std.specs.Prelude.{◌≡◌, ℕ, ◌+◌, ◌%◌, ◌^◌, ◌<◌, ◌≤◌, IfSome};
 ghost use Rattle.capability.specs.Formats.{rounded};
 ghost use Rattle.plain.specs.Blocks.{apart, lowest_free};
+ghost use Rattle.table.specs.Recorded.{Sound};
 
 use crate::block::Block;
 use crate::table::Table;
@@ -43,6 +44,7 @@ impl Table {
         requires high_small { high ≤ 2 ^ 36 }
         ensures is { result ≡ lowest_free self.now low high unit size }
         ensures between { IfSome result (λ x. (low ≤ x) × (x + size ≤ high) × (x % unit ≡ 0)) }
+        ensures sound { Sound self.now }
     {
         let blocks = self.recorded();
         let mut start = next_multiple(low, unit);

@@ -21,9 +21,10 @@ impl Model for Table {
 
     ghost Value = { List Entry };
 
-    ghost use Rattle.table.specs.Recorded.{recorded};
+    ghost use Rattle.std.specs.List.{All};
+    ghost use Rattle.table.specs.Recorded.{Whole, recorded};
 
     ghost view = { recorded };
 
-    ghost invariant = { λ t. (t.used ≤ 64) × (length t.blocks ≡ 64) };
+    ghost invariant = { λ t. (t.used ≤ 64) × (length t.blocks ≡ 64) × All Whole t.blocks };
 }
